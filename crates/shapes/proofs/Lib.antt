@@ -1,0 +1,4 @@
+pub mod Numbering
+pub mod Extents
+pub mod Tables
+pub mod Asked

@@ -1,0 +1,121 @@
+// Tables of shapes: how they come of declarations, and what they answer.
+ghost use mathlib.Core.Path.{_≡_};
+ghost use mathlib.Core.Bool.{cond};
+ghost use mathlib.Core.List.{[], _∷_, _++_};
+ghost use lib.Dec.{ltb};
+ghost use lib.ListN.{length, take};
+ghost use Prim.Native.Nat.{_*_, _≤_};
+ghost use Rattle.shapes.specs.Places.{total as total-of};
+ghost use Rattle.shapes.specs.Refusals.{answered, answer};
+ghost use Rattle.shapes.specs.Shapes.{extentsOf, shapesOf, declared as declared-answer, shapeAnswer, rankAnswer, extentAnswer, placeAnswer};
+use super::declaration::Declaration;
+use super::refusal::Refusal;
+use super::shape::Shape;
+use super::table::Table;
+
+impl Table {
+    pub fn empty() -> Table
+        ensures { λ r. ⌜ shapesOf r ≡ [] ⌝ }
+    {
+        Table { len: 0, shapes: [Shape::scalar(); 16] }
+    }
+
+    // One shape more; false where the table is full.
+    pub fn add(&mut self, shape: Shape) -> bool
+        ensures test { λ r. ⌜ r ≡ ltb (length (shapesOf (now (self .entry)))) 16 ⌝ }
+        ensures after { λ r. ⌜ shapesOf (now (self .exit)) ≡ cond r (shapesOf (now (self .entry)) ++ extentsOf shape ∷ []) (shapesOf (now (self .entry))) ⌝ }
+    {
+        let k = self.len;
+        if k >= 16 {
+            return false;
+        }
+        self.shapes[k] = shape;
+        self.len = k + 1;
+        true
+    }
+
+    // The table of these declarations.
+    pub fn of(declared: &[Declaration]) -> Result<Table, Refusal>
+        ensures { λ r. ⌜ answer shapesOf r ≡ declared-answer (now (declared .entry)) ⌝ }
+    {
+        if declared.len() > 16 {
+            return Err(Refusal::TooManyDeclarations);
+        }
+        let mut table = Table::empty();
+        for k in 0..declared.len() {
+            match Shape::of(&declared[k]) {
+                Some(shape) => {
+                    let _ = table.add(shape);
+                }
+                None => return Err(Refusal::BadDeclaration(k + 1)),
+            }
+        }
+        Ok(table)
+    }
+
+    // How many variables there are.
+    pub fn len(&self) -> usize
+        ensures { λ r. ⌜ r ≡ length (shapesOf (now (self .entry))) ⌝ }
+    {
+        self.len
+    }
+
+    // The shape of a variable, from 1.
+    fn shape(&self, v: usize) -> Result<Shape, Refusal>
+        ensures { λ r. ⌜ answer extentsOf r ≡ shapeAnswer (shapesOf (now (self .entry))) v ⌝ }
+    {
+        if v < 1 || v > self.len {
+            return Err(Refusal::NoSuchVariable);
+        }
+        Ok(self.shapes[v - 1])
+    }
+
+    // The rank of a variable.
+    pub fn rank(&self, v: usize) -> Result<usize, Refusal>
+        ensures { λ r. ⌜ answered r ≡ rankAnswer (shapesOf (now (self .entry))) v ⌝ }
+    {
+        Ok(self.shape(v)?.rank())
+    }
+
+    // The extent of a dimension of a variable, both from 1.
+    pub fn extent(&self, v: usize, d: usize) -> Result<u16, Refusal>
+        ensures { λ r. ⌜ answered r ≡ extentAnswer (shapesOf (now (self .entry))) v d ⌝ }
+    {
+        let shape = self.shape(v)?;
+        let es = shape.extents();
+        if d < 1 || d > es.len() {
+            return Err(Refusal::NoSuchVariable);
+        }
+        Ok(es[d - 1])
+    }
+
+    // How many places all variables have.
+    pub fn total(&self) -> usize
+        ensures { λ r. ⌜ r ≡ total-of (shapesOf (now (self .entry))) ⌝ }
+    {
+        self.before(self.len)
+    }
+
+    // The number of a place through all variables, variable after variable, each row-major, from 0.
+    pub fn place(&self, v: usize, index: &[u16]) -> Result<usize, Refusal>
+        ensures { λ r. ⌜ answered r ≡ placeAnswer (shapesOf (now (self .entry))) v (now (index .entry)) ⌝ }
+    {
+        match self.shape(v)?.place(index) {
+            Some(n) => Ok(self.before(v - 1) + n),
+            None => Err(Refusal::OutOfReach),
+        }
+    }
+
+    // How many places the first n variables have.
+    fn before(&self, n: usize) -> usize
+        requires { ⌜ n ≤ now self .len ⌝ }
+        ensures value { λ r. ⌜ r ≡ total-of (take n (shapesOf (now (self .entry)))) ⌝ }
+        ensures few { λ r. ⌜ r ≤ 4096 * n ⌝ }
+    {
+        let mut sum: usize = 0;
+        for k in 0..n {
+            sum += self.shapes[k].size();
+        }
+        sum
+    }
+}
