@@ -39,10 +39,11 @@ truncates : (z w : ℤ) → nought w ≡ false → Truncated z w (quotZ z w)
 truncates z w h =
     let e = sym (size-quotient z w) in
     let below : natAbs z < (natAbs z / natAbs w + 1) * natAbs w = simp add-mul (omega (arith, lt-div-mul-add {a = natAbs z} (size-divisor w h))) in
-    record
-      { within = subst (λ k. k * natAbs w ≤ natAbs z) e (div-mul-le-self (natAbs z) (natAbs w))
-      ; nearest = subst (λ k. natAbs z < (k + 1) * natAbs w) e below
-      ; sign = signed z w }
+    record {
+      within = subst (λ k. k * natAbs w ≤ natAbs z) e (div-mul-le-self (natAbs z) (natAbs w));
+      nearest = subst (λ k. natAbs z < (k + 1) * natAbs w) e below;
+      sign = signed z w;
+    }
 
 quotient-measurable : (z w : ℤ) → measurable z ≡ true → measurable (quotZ z w) ≡ true
 quotient-measurable z w h =

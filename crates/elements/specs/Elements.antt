@@ -5,8 +5,8 @@
 --   text        what is written for an element, by what is written for a defined value
 --   algebraOf   the kind: zero times anything, anything times zero and zero divided by anything are zero, all else is strict
 use mathlib.Core.Bool.{Bool, false, cond, _||_}
-use Prim.Native.Nat.{ℕ}
 use mathlib.Core.List.{List}
+use Prim.Native.Nat.{ℕ}
 use lib.Chars.{codes}
 use lib.Dec.{eqb}
 use Rattle.std.specs.declared.option.Option.{Option}
@@ -43,13 +43,14 @@ text shown (Defined x) = shown x
 text shown Undefined = Some (codes "undefined")
 
 abbrev pub algebraOf : {D : Type 0} → Arithmetic D → Algebra (Element D)
-algebraOf a = record
-  { number = a .number
-  ; zero = Defined (a .zero)
-  ; undefined = Undefined
-  ; plus = strict (a .plus)
-  ; minus = strict (a .minus)
-  ; times = λ x y. cond (null a x || null a y) (Defined (a .zero)) (strict (a .times) x y)
-  ; over = λ x y. cond (null a x) (Defined (a .zero)) (strict (a .over) x y)
-  ; code = coded a
-  ; decode = λ c. cond (eqb c (a .blank)) (Some Undefined) (found (a .decode c)) }
+algebraOf a = record {
+  number = a .number;
+  zero = Defined (a .zero);
+  undefined = Undefined;
+  plus = strict (a .plus);
+  minus = strict (a .minus);
+  times = λ x y. cond (null a x || null a y) (Defined (a .zero)) (strict (a .times) x y);
+  over = λ x y. cond (null a x) (Defined (a .zero)) (strict (a .over) x y);
+  code = coded a;
+  decode = λ c. cond (eqb c (a .blank)) (Some Undefined) (found (a .decode c));
+}

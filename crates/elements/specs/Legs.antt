@@ -6,8 +6,8 @@
 --          cheaper, otherwise no way; the quotient takes the second cost from the first; the code is the cost plus 2,
 --          no way has 1 and undefined 0
 use mathlib.Core.Bool.{Bool, true, false, cond}
-use Prim.Native.Nat.{ℕ, zero, suc, _+_, _-_}
 use mathlib.Core.List.{List}
+use Prim.Native.Nat.{ℕ, zero, suc, _+_, _-_}
 use lib.Chars.{codes}
 use lib.Dec.{ltb}
 use Rattle.std.specs.Written.{decimal}
@@ -71,14 +71,15 @@ text (Way a) = decimal (a .value)
 text NoWay = codes "no way"
 
 abbrev pub legs : Arithmetic Leg
-legs = record
-  { number = 2
-  ; zero = NoWay
-  ; null = no-way
-  ; plus = λ x y. Some (cheaper x y)
-  ; minus = λ x y. Some (unless x y)
-  ; times = onward
-  ; over = saved
-  ; code = leg-code
-  ; decode = leg-of
-  ; blank = 0 }
+legs = record {
+  number = 2;
+  zero = NoWay;
+  null = no-way;
+  plus = λ x y. Some (cheaper x y);
+  minus = λ x y. Some (unless x y);
+  times = onward;
+  over = saved;
+  code = leg-code;
+  decode = leg-of;
+  blank = 0;
+}

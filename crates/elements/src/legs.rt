@@ -36,7 +36,9 @@ impl Cost {
         if value > 2_147_483_647 {
             return None;
         }
-        Some(Cost { value: value as u32 })
+        Some(Cost {
+            value: value as u32,
+        })
     }
 
     pub fn value(self) -> u32

@@ -7,6 +7,5 @@ pub mod kind;
 pub mod legs;
 pub mod metres;
 pub mod quantity;
-
 #[cfg(test)]
 mod tests;

@@ -29,7 +29,9 @@ impl Distance {
         if value < -2_147_483_647 || value > 2_147_483_647 {
             return None;
         }
-        Some(Distance { metres: value as i32 })
+        Some(Distance {
+            metres: value as i32,
+        })
     }
 
     // The number of metres.

@@ -18,12 +18,13 @@ use std::test::*;
 #[test]
 fn metres_are_worked_out() -> Result<(), Fail> {
     let undefined = Metres::undefined();
+    let side = metres(46_340);
     check_eq(metres(7).quotient(metres(-2)), metres(-3))?;
     check_eq(metres(0).quotient(metres(0)), metres(0))?;
     check_eq(metres(5).quotient(metres(0)), undefined)?;
     check_eq(metres(0).product(undefined), metres(0))?;
     check_eq(undefined.sum(metres(0)), undefined)?;
-    check_eq(metres(46_340).product(metres(46_340)), metres(2_147_395_600))?;
+    check_eq(side.product(side), metres(2_147_395_600))?;
     check_eq(metres(46_341).product(metres(46_341)), undefined)?;
     check_eq(metres(2_147_483_647).sum(metres(1)), undefined)?;
     check_eq(metres(-2_147_483_647).difference(metres(1)), undefined)

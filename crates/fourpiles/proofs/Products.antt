@@ -81,22 +81,24 @@ module _ {E : Type 0} (g : Algebra E) (t : Plan) where
   filled-none m some none = record { shapes = refl; reach = refl; product = λ i j s. absurd (none i j s); others = λ w k r ne. refl }
 
   pub filled-like : (m n : Meaning E) (some more : ℕ → ℕ → Type 0) → ((i j : ℕ) → more i j → some i j) → ((i j : ℕ) → some i j → more i j) → Filled g t some m n → Filled g t more m n
-  filled-like m n some more to from f = record
-    { shapes = f .shapes
-    ; reach = f .reach
-    ; product = λ i j s. f .product i j (to i j s)
-    ; others = λ w k r ne. f .others w k r (λ i j s. ne i j (from i j s)) }
+  filled-like m n some more to from f = record {
+    shapes = f .shapes;
+    reach = f .reach;
+    product = λ i j s. f .product i j (to i j s);
+    others = λ w k r ne. f .others w k r (λ i j s. ne i j (from i j s));
+  }
 
   pub conforms-after : (m n : Meaning E) (some : ℕ → ℕ → Type 0) → Filled g t some m n → Conforms (m .shapes) t → Conforms (n .shapes) t
   conforms-after m n some f c = subst (λ ss. Conforms ss t) (sym (f .shapes)) c
 
   pub filled-one : (m n : Meaning E) (i j : ℕ) → Written true m (t .result) (i ∷ j ∷ []) (entry g (m .at) t i j) n → Filled g t (λ a b. (a ≡ i) × (b ≡ j)) m n
-  filled-one m n i j w = record
-    { shapes = w .shapes
-    ; reach = w .reach
-    ; product = λ a b e. ap (λ x. n .at (t .result) (x ∷ b ∷ [])) (e .0) ∙ ap (λ y. n .at (t .result) (i ∷ y ∷ [])) (e .1) ∙ w .put refl
-                       ∙ ap (λ x. entry g (m .at) t x j) (sym (e .0)) ∙ ap (entry g (m .at) t a) (sym (e .1))
-    ; others = λ u k r ne. w .others u k r (λ _ p q. ne i j (refl, refl) p q) }
+  filled-one m n i j w = record {
+    shapes = w .shapes;
+    reach = w .reach;
+    product = λ a b e. ap (λ x. n .at (t .result) (x ∷ b ∷ [])) (e .0) ∙ ap (λ y. n .at (t .result) (i ∷ y ∷ [])) (e .1) ∙ w .put refl
+        ∙ ap (λ x. entry g (m .at) t x j) (sym (e .0)) ∙ ap (entry g (m .at) t a) (sym (e .1));
+    others = λ u k r ne. w .others u k r (λ _ p q. ne i j (refl, refl) p q);
+  }
 
   module _ (z : E) (m n o : Meaning E) (law : Lawful z m) (c : Conforms (m .shapes) t) (some more : ℕ → ℕ → Type 0) (f : Filled g t some m n) (h : Filled g t more n o) where
     same-reach : (w : ℕ) (k : List ℕ) → inReach n w k ≡ inReach m w k
@@ -109,23 +111,24 @@ module _ {E : Type 0} (g : Algebra E) (t : Plan) where
     entry-kept : (i j : ℕ) → inRows (t .rows) (t .columns) i j → entry g (n .at) t i j ≡ entry g (m .at) t i j
     entry-kept i j s =
         total-same g _ _ (t .inner) (λ l p q.
-          ap (λ x. g .times x (n .at (t .right) (l ∷ j ∷ [])))
-            (f .others (t .left) (i ∷ l ∷ []) (reachable (t .left) (t .rows) (t .inner) i l (c .left) (s .0) (s .1) p q) (λ _ _ _ e _. c .not-left e))
-          ∙ ap (g .times (m .at (t .left) (i ∷ l ∷ [])))
-            (f .others (t .right) (l ∷ j ∷ []) (reachable (t .right) (t .inner) (t .columns) l j (c .right) p q (s .2) (s .3)) (λ _ _ _ e _. c .not-right e)))
+        ap (λ x. g .times x (n .at (t .right) (l ∷ j ∷ [])))
+        (f .others (t .left) (i ∷ l ∷ []) (reachable (t .left) (t .rows) (t .inner) i l (c .left) (s .0) (s .1) p q) (λ _ _ _ e _. c .not-left e))
+        ∙ ap (g .times (m .at (t .left) (i ∷ l ∷ [])))
+        (f .others (t .right) (l ∷ j ∷ []) (reachable (t .right) (t .inner) (t .columns) l j (c .right) p q (s .2) (s .3)) (λ _ _ _ e _. c .not-right e)))
 
     -- what is filled in after some entries adds to them
     pub filled-more : ((i j : ℕ) → some i j → inRows (t .rows) (t .columns) i j) → ((i j : ℕ) → more i j → inRows (t .rows) (t .columns) i j) → ((i j : ℕ) → some i j → more i j → ⊥) → Filled g t (λ i j. some i j ⊎ more i j) m o
-    filled-more inner outer apart = record
-      { shapes = h .shapes ∙ f .shapes
-      ; reach = h .reach ∙ f .reach
-      ; product = λ i j. ⊎-elim
+    filled-more inner outer apart = record {
+      shapes = h .shapes ∙ f .shapes;
+      reach = h .reach ∙ f .reach;
+      product = λ i j. ⊎-elim
           (λ s. let r = inner i j s in
-                h .others (t .result) (i ∷ j ∷ []) (same-reach (t .result) (i ∷ j ∷ []) ∙ reachable (t .result) (t .rows) (t .columns) i j (c .result) (r .0) (r .1) (r .2) (r .3))
-                  (λ a b x _ e. apart i j s (subst2 more i j a b e x))
-                ∙ f .product i j s)
-          (λ s. h .product i j s ∙ entry-kept i j (outer i j s))
-      ; others = λ w k r ne. h .others w k (same-reach w k ∙ r) (λ i j s. ne i j (inr s)) ∙ f .others w k r (λ i j s. ne i j (inl s)) }
+          h .others (t .result) (i ∷ j ∷ []) (same-reach (t .result) (i ∷ j ∷ []) ∙ reachable (t .result) (t .rows) (t .columns) i j (c .result) (r .0) (r .1) (r .2) (r .3))
+          (λ a b x _ e. apart i j s (subst2 more i j a b e x))
+          ∙ f .product i j s)
+          (λ s. h .product i j s ∙ entry-kept i j (outer i j s));
+      others = λ w k r ne. h .others w k (same-reach w k ∙ r) (λ i j s. ne i j (inr s)) ∙ f .others w k r (λ i j s. ne i j (inl s));
+    }
 
 -- a row grows by a place, and the rows by a row
 module _ {E : Type 0} (g : Algebra E) (t : Plan) (z : E) (m n o : Meaning E) (law : Lawful z m) (c : Conforms (m .shapes) t) where
@@ -135,7 +138,7 @@ module _ {E : Type 0} (g : Algebra E) (t : Plan) (z : E) (m n o : Meaning E) (la
       (λ a b s. ⊎-elim (λ (r : b ≤ j). inl (s .0, s .1, r)) (λ (r : j < b). inr (s .0, omega arith)) (below b j))
       (λ a b. ⊎-elim (λ s. (s .0, s .1, omega arith)) (λ s. (s .0, omega arith, omega arith)))
       (filled-more g t z m n o law c (inRow i j) _ f h
-        (λ a b s. (omega arith, omega arith, omega arith, omega arith)) (λ a b s. (omega arith, omega arith, omega arith, omega arith)) (λ a b s r. omega arith))
+      (λ a b s. (omega arith, omega arith, omega arith, omega arith)) (λ a b s. (omega arith, omega arith, omega arith, omega arith)) (λ a b s r. omega arith))
 
   pub rows-more : (i : ℕ) → i < t .rows → Filled g t (inRows i (t .columns)) m n → Filled g t (inRow (i + 1) (t .columns)) n o → Filled g t (inRows (i + 1) (t .columns)) m o
   rows-more i l f h =
@@ -143,4 +146,4 @@ module _ {E : Type 0} (g : Algebra E) (t : Plan) (z : E) (m n o : Meaning E) (la
       (λ a b s. ⊎-elim (λ (r : a ≤ i). inl (s .0, r, s .2, s .3)) (λ (r : i < a). inr (omega arith, s .2, s .3)) (below a i))
       (λ a b. ⊎-elim (λ s. (s .0, omega arith, s .2, s .3)) (λ s. (omega arith, omega arith, s .1, s .2)))
       (filled-more g t z m n o law c (inRows i (t .columns)) _ f h
-        (λ a b s. (s .0, omega arith, s .2, s .3)) (λ a b s. (omega arith, omega arith, s .1, s .2)) (λ a b s r. omega arith))
+      (λ a b s. (s .0, omega arith, s .2, s .3)) (λ a b s. (omega arith, omega arith, s .1, s .2)) (λ a b s r. omega arith))

@@ -1,12 +1,12 @@
 // Multiplies two tables of metres over each kind of store, and prints a row for each.
 use elements::element::Element;
-use elements::element::ElementKind;
-use elements::metres::DistanceDisplay;
 use elements::element::ElementDisplay;
+use elements::element::ElementKind;
+use elements::kind::Kind;
+use elements::metres::DistanceDisplay;
 use elements::metres::DistanceQuantity;
 use elements::metres::Metres;
 use elements::metres::metres;
-use elements::kind::Kind;
 use shapes::declaration::Declaration;
 use shapes::refusal::Refusal;
 use shapes::refusal::RefusalError;
@@ -22,9 +22,18 @@ mod product;
 
 // The tables A (2 3), B (3 2) and C (2 2).
 const TABLES: [Declaration; 3] = [
-    Declaration { rank: 2, extents: [2, 3, 0, 0] },
-    Declaration { rank: 2, extents: [3, 2, 0, 0] },
-    Declaration { rank: 2, extents: [2, 2, 0, 0] },
+    Declaration {
+        rank: 2,
+        extents: [2, 3, 0, 0],
+    },
+    Declaration {
+        rank: 2,
+        extents: [3, 2, 0, 0],
+    },
+    Declaration {
+        rank: 2,
+        extents: [2, 2, 0, 0],
+    },
 ];
 
 // The elements of A, B and C, the last coordinate running fastest.
@@ -43,7 +52,11 @@ fn cells(heap: Global) -> Result<Cells<Metres>, AnyError> {
 }
 
 // Works out C in a store, and prints it.
-fn print_pile<K: Kind + fmt::Display, S: Store<Item = K>>(rt: &LibcRuntime, name: &str, s: &mut S) -> Result<(), AnyError>
+fn print_pile<K: Kind + fmt::Display, S: Store<Item = K>>(
+    rt: &LibcRuntime,
+    name: &str,
+    s: &mut S,
+) -> Result<(), AnyError>
     requires { ⌜ S·Store .keeps (now s) ⌝ }
 {
     let Some(t) = product::plan(s, 1, 2, 3) else {

@@ -4,13 +4,13 @@ ghost use Prim.Native.Nat.{_≤_};
 ghost use Rattle.std.specs.Options.{Cases as BySome};
 ghost use Rattle.shapes.specs.Refusals.{answered, done};
 ghost use Rattle.fourpiles.specs.Product.{Sides, Conforms, entry as entry-of, Filled, inRow, inRows};
+use super::plan::Plan;
 use elements::kind::Kind;
 use shapes::refusal::Refusal;
 use stores::store::Store;
-use super::plan::Plan;
 
 // The plan to multiply tables a and b into c, if their shapes allow it.
-pub fn plan<S: Store>(s: &S, a: usize, b: usize, c: usize) -> Option<Plan>
+pub(super) fn plan<S: Store>(s: &S, a: usize, b: usize, c: usize) -> Option<Plan>
     requires { ⌜ S·Store .keeps (now s) ⌝ }
     ensures { λ r. ⌜ BySome r (Unit {0}) (λ t. Conforms (S·Store .meaning (now (s .entry)) .shapes) t) ⌝ }
 {
@@ -23,7 +23,14 @@ pub fn plan<S: Store>(s: &S, a: usize, b: usize, c: usize) -> Option<Plan>
     if height != inner || tall != rows || wide != columns {
         return None;
     }
-    Some(Plan { left: a, right: b, result: c, rows, inner, columns })
+    Some(Plan {
+        left: a,
+        right: b,
+        result: c,
+        rows,
+        inner,
+        columns,
+    })
 }
 
 // The extents of a table of rank 2.
@@ -80,7 +87,7 @@ fn row<K: Kind, S: Store<Item = K>>(s: &mut S, t: Plan, i: u16) -> Result<(), Re
 }
 
 // The whole product.
-pub fn multiply<K: Kind, S: Store<Item = K>>(s: &mut S, t: Plan) -> Result<(), Refusal>
+pub(super) fn multiply<K: Kind, S: Store<Item = K>>(s: &mut S, t: Plan) -> Result<(), Refusal>
     requires kept { ⌜ S·Store .keeps (now s) ⌝ }
     requires conforms { ⌜ Conforms (S·Store .meaning (now s) .shapes) t ⌝ }
     ensures answer { λ r. ⌜ answered r ≡ done tt ⌝ }

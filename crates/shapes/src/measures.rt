@@ -14,7 +14,10 @@ impl Shape {
     pub fn scalar() -> Shape
         ensures { λ r. ⌜ extentsOf r ≡ [] ⌝ }
     {
-        Shape { rank: 0, extents: [0; 4] }
+        Shape {
+            rank: 0,
+            extents: [0; 4],
+        }
     }
 
     // The shape that is declared, if it is one.
@@ -69,6 +72,10 @@ impl Shape {
         ensures { λ r. ⌜ r ≡ placeIn (extentsOf (now (self .entry))) (now (index .entry)) ⌝ }
     {
         let es = self.extents();
-        if places::contains(es, index) { Some(places::number(es, index)) } else { None }
+        if places::contains(es, index) {
+            Some(places::number(es, index))
+        } else {
+            None
+        }
     }
 }

@@ -24,14 +24,15 @@ covers-self [] h = tt
 covers-self (e ∷ es) h = let p = each-parts e es h in (omega arith, p .1, covers-self es (p .2))
 
 pub flat-lawful : {E : Type 0} (z : E) (t : Table) (xs : List E) → Lawful z (flat z (shapesOf t) xs)
-flat-lawful z t xs = record
-  { few = omega (arith, shapes-length t, t .few)
-  ; count = refl
-  ; shaped = λ v h. proper-pick t v
-  ; covers = λ v h. covers-self (pick (shapesOf t) v) (proper-parts (pick (shapesOf t) v) (proper-pick t v) .extents)
-  ; places = λ v h. proper-parts (pick (shapesOf t) v) (proper-pick t v) .places
-  ; alike = λ v w d e _ _ p. p
-  ; spare = λ v i p q. absurd (both-ways (inShape (flat z (shapesOf t) xs) v i) q p) }
+flat-lawful z t xs = record {
+  few = omega (arith, shapes-length t, t .few);
+  count = refl;
+  shaped = λ v h. proper-pick t v;
+  covers = λ v h. covers-self (pick (shapesOf t) v) (proper-parts (pick (shapesOf t) v) (proper-pick t v) .extents);
+  places = λ v h. proper-parts (pick (shapesOf t) v) (proper-pick t v) .places;
+  alike = λ v w d e _ _ p. p;
+  spare = λ v i p q. absurd (both-ways (inShape (flat z (shapesOf t) xs) v i) q p);
+}
 
 module _ {E : Type 0} (a : Algebra E) (ss : List (List ℕ)) (xs : List E) (v : ℕ) (i : List ℕ) where
   -- a read through the number of the place
@@ -55,13 +56,14 @@ module _ {E : Type 0} (a : Algebra E) (ss : List (List ℕ)) (xs : List E) (v : 
   pub flat-written : (x : E) → has ss v ≡ true → within (pick ss v) i ≡ true → total ss ≤ length xs → Written true (flat (a .zero) ss xs) v i x (flat (a .zero) ss (set xs (cell ss v i) x))
   flat-written x h w f =
       let l = cell-lt ss v i h w in
-      record
-        { shapes = refl
-        ; reach = refl
-        ; put = λ _. getD-set-same xs (cell ss v i) x (a .zero) (omega arith)
-        ; others = λ u j r ne.
+      record {
+        shapes = refl;
+        reach = refl;
+        put = λ _. getD-set-same xs (cell ss v i) x (a .zero) (omega arith);
+        others = λ u j r ne.
             let p = and-parts (has ss u) (within (pick ss u) j) r in
-            getD-set-other xs (cell ss v i) (cell ss u j) x (a .zero) (cell-other ss v u i j h w (p .0) (p .1) (ne refl)) }
+            getD-set-other xs (cell ss v i) (cell ss u j) x (a .zero) (cell-other ss v u i j h w (p .0) (p .1) (ne refl));
+      }
 
   pub flat-same : (x : E) → Written false (flat (a .zero) ss xs) v i x (flat (a .zero) ss xs)
   flat-same x = record { shapes = refl; reach = refl; put = λ e. absurd (both-ways false refl e); others = λ u j r ne. refl }

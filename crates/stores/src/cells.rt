@@ -10,12 +10,12 @@ ghost use Rattle.shapes.specs.Refusals.{answered, done, then, opened, held};
 ghost use Rattle.shapes.specs.Shapes.{shapesOf, placeAnswer};
 ghost use Rattle.stores.specs.Cells.{flat, cellsAnswer};
 ghost use Rattle.stores.specs.Meaning.{readAnswer, writeAnswer, Written};
+use super::store::Store;
 use elements::kind::Kind;
 use shapes::declaration::Declaration;
 use shapes::refusal::Declined;
 use shapes::refusal::Refusal;
 use shapes::table::Table;
-use super::store::Store;
 
 // Elements beyond those of the last variable are kept and never touched.
 #[derive(Drop)]
@@ -34,11 +34,17 @@ impl<K: Kind> Cells<K> {
         match Table::of(declared) {
             Ok(table) => {
                 if table.total() > elements.len() {
-                    return Err(Declined { refusal: Refusal::TooFewElements, value: elements });
+                    return Err(Declined {
+                        refusal: Refusal::TooFewElements,
+                        value: elements,
+                    });
                 }
                 Ok(Cells { table, elements })
             }
-            Err(refusal) => Err(Declined { refusal, value: elements }),
+            Err(refusal) => Err(Declined {
+                refusal,
+                value: elements,
+            }),
         }
     }
 
@@ -71,7 +77,7 @@ pub impl<K: Kind> Store for Cells<K> as CellsStore {
     }
 
     fn rounded(&self, v: usize, d: usize) -> Result<u16, Refusal> {
-        self.table.extent(v, d)
+        self.extent(v, d)
     }
 
     fn read(&self, v: usize, index: &[u16]) -> Result<K, Refusal>
@@ -90,8 +96,8 @@ pub impl<K: Kind> Store for Cells<K> as CellsStore {
         ensures table { λ r. ⌜ now (self .exit) .table ≡ now (self .entry) .table ⌝ }
         ensures elements { λ r. ⌜ vec-items (now (self .exit) .elements) ≡ cond (isOk r) (set (vec-items (now (self .entry) .elements)) (cell (shapesOf (now (self .entry) .table)) v (now (index .entry))) x) (vec-items (now (self .entry) .elements)) ⌝ }
     {
-        let k = self.table.place(v, index)?;
-        self.elements[k] = x;
+        let at = self.table.place(v, index)?;
+        self.elements[at] = x;
         Ok(())
     }
 }

@@ -2,3 +2,5 @@
 // The trait `Store` says what every store means and what each call answers; `Cells` keeps its elements in a vector.
 pub mod cells;
 pub mod store;
+#[cfg(test)]
+mod tests;

@@ -16,7 +16,7 @@ returns-in-Break-write g c =
     let n = g .S·Store .meaning (c .loop-j .s) in let t = c .args .t in let a = g .K·Kind .algebra in
     let k = conforms-after a t _ n _ (c .loop-j .inv .1) (c .pre .conforms) in
     let w = writes (a .zero) n (g .S·Store·met .lawful (c .loop-j .s) (c .loop-j .inv .0)) (t .result) (t .rows) (t .columns) (k .result) (c .args .i) (c .loop-j .j + 1)
-              (c .pre .low) (c .pre .high) (omega arith) (omega (arith, c .loop-j-test .taken)) a (c .in-Continue-x .x) in
+    (c .pre .low) (c .pre .high) (omega arith) (omega (arith, c .loop-j-test .taken)) a (c .in-Continue-x .x) in
     never-refused _ _ _ _ (c .in-Break-write .ensures tt .answer) w
 
 pub loop-j-again : need.loop-j-again
@@ -25,6 +25,7 @@ loop-j-again g c =
     let t = c .args .t in let a = g .K·Kind .algebra in let i = c .args .i in let j = c .loop-j .j in
     let x = done-same _ _ _ (c .in-Continue-x .ensures tt) refl in
     let w = c .in-Continue-write .ensures tt .written in
-    let h = filled-one a t n o i (j + 1) (subst (λ y. Written true n (t .result) (i ∷ (j + 1) ∷ []) y o) x w) in
-    ( c .write .ensures .kept
-    , row-more a t (a .zero) m n o (g .S·Store·met .lawful (c .args .s .now) (c .pre .kept)) (c .pre .conforms) i j (c .pre .low) (c .pre .high) (c .loop-j-test .taken) (c .loop-j .inv .1) h )
+    let h = filled-one a t n o i (j + 1) (subst (λ y. Written true n (t .result) (i ∷ (j + 1) ∷ []) y o) x w) in (
+      c .write .ensures .kept,
+      row-more a t (a .zero) m n o (g .S·Store·met .lawful (c .args .s .now) (c .pre .kept)) (c .pre .conforms) i j (c .pre .low) (c .pre .high) (c .loop-j-test .taken) (c .loop-j .inv .1) h,
+    )

@@ -18,9 +18,10 @@ returns-then-index-d-lt1 c =
     let m = within-more es cs d (omega arith) (omega arith) in
     let low = within-low (getD es d 0) (getD cs d 0) (drop (d + 1) es) (drop (d + 1) cs) in
     let high = within-high (getD es d 0) (getD cs d 0) (drop (d + 1) es) (drop (d + 1) cs) in
-    elim (c .then-index-d-lt1 .came)
-    [ then-index-d-lt1·by·then-index-d-lt1 w ↦ sym (sym (c .loop-d .inv) ∙ m ∙ low (w .if-index-d-lt1 .taken))
-    | then-index-d-lt1·by·else-index-d-lt1·then-index-d w ↦ sym (sym (c .loop-d .inv) ∙ m ∙ high (w .if-index-d .taken)) ]
+    elim (c .then-index-d-lt1 .came) [
+      | then-index-d-lt1·by·then-index-d-lt1 w ↦ sym (sym (c .loop-d .inv) ∙ m ∙ low (w .if-index-d-lt1 .taken))
+      | then-index-d-lt1·by·else-index-d-lt1·then-index-d w ↦ sym (sym (c .loop-d .inv) ∙ m ∙ high (w .if-index-d .taken))
+    ]
 
 pub loop-d-again : need.loop-d-again
 loop-d-again c =

@@ -13,9 +13,10 @@ mul-n c =
 
 pub loop-e-again : need.loop-e-again
 loop-e-again c =
-    let es = c .args .es .now in let d = c .loop-e .e-index in
-    ( count-more es d (c .loop-e .n) (c .loop-e-test .taken) (c .loop-e .inv .0)
-    , power-more (c .loop-e .n) (getD es d 0) d (c .loop-e .inv .1) (each-at es d (c .pre .0) (c .loop-e-test .taken) .1) )
+    let es = c .args .es .now in let d = c .loop-e .e-index in (
+      count-more es d (c .loop-e .n) (c .loop-e-test .taken) (c .loop-e .inv .0),
+      power-more (c .loop-e .n) (getD es d 0) d (c .loop-e .inv .1) (each-at es d (c .pre .0) (c .loop-e-test .taken) .1),
+    )
 
 pub returns : need.returns
 returns c = count-all (c .args .es .now) (c .loop-e .e-index) (c .loop-e .n) (c .loop-e-test .left) (c .loop-e .inv .0)

@@ -22,10 +22,11 @@ apart (Way c) e = omega arith
 apart NoWay e = omega arith
 
 pub sound-law : need.sound-law
-sound-law = record
-  { null-zero = zero-found
-  ; plus-zero = beside-none
-  ; zero-minus-zero = refl
-  ; decode-code = leg-of-code
-  ; code-decode = code-of-leg
-  ; blank-apart = apart }
+sound-law = record {
+  null-zero = zero-found;
+  plus-zero = beside-none;
+  zero-minus-zero = refl;
+  decode-code = leg-of-code;
+  code-decode = code-of-leg;
+  blank-apart = apart;
+}

@@ -13,7 +13,7 @@ returns c =
     let x = c .args .self in let y = c .args .other in
     let h : nought (y .metres) ≡ false = sym (c .if-is-zero .ensures tt) in
     let e : c .of .result ≡ metres .over x y =
-          worked-out quotZ (c .wide .result) (c .wide-2 .result) x y (c .wide .ensures) (c .wide-2 .ensures) (c .of .result)
-          (quotient-fits x y) (c .of .ensures)
-          ∙ sym (cond-false _ _ _ h) in
+    worked-out quotZ (c .wide .result) (c .wide-2 .result) x y (c .wide .ensures) (c .wide-2 .ensures) (c .of .result)
+    (quotient-fits x y) (c .of .ensures)
+    ∙ sym (cond-false _ _ _ h) in
     record { value = e; truncated = quotient-truncated x y (c .of .result) e }

@@ -21,10 +21,11 @@ rest d h = take-all (4 - d .rank) (drop (d .rank) (d .extents)) (omega (arith, l
 
 shape : (d : Declaration) (n : ℕ) → d .rank ≤ 4 → true ≡ each (take (d .rank - 0) (d .extents)) → n ≡ product (take (d .rank - 0) (d .extents)) → n ≤ 4096 → proper (declaredExtents d) ≡ true
 shape d n r e p f =
-    proper-from (declaredExtents d) (record
-      { rank = omega (arith, length-take (d .rank) (d .extents))
-      ; extents = ap each (sym (front d)) ∙ sym e
-      ; places = omega (arith, p ∙ ap product (front d)) })
+    proper-from (declaredExtents d) (record {
+      rank = omega (arith, length-take (d .rank) (d .extents));
+      extents = ap each (sym (front d)) ∙ sym e;
+      places = omega (arith, p ∙ ap product (front d));
+    })
 
 pub returns-then-not-in-range : need.returns-then-not-in-range
 returns-then-not-in-range c =

@@ -8,6 +8,7 @@ use Rattle.shapes.proofs.table.Table.add.Needs as need
 pub returns : need.returns
 returns c =
     let t = c .args .self .now in
-    record
-      { test = sym (lt-ltb _ 16 (omega (arith, shapes-length t, c .if-k-ge16 .left)))
-      ; after = shapes-added (t .shapes) (t .len) (c .args .shape) (omega (arith, t .whole, c .if-k-ge16 .left)) }
+    record {
+      test = sym (lt-ltb _ 16 (omega (arith, shapes-length t, c .if-k-ge16 .left)));
+      after = shapes-added (t .shapes) (t .len) (c .args .shape) (omega (arith, t .whole, c .if-k-ge16 .left));
+    }

@@ -41,10 +41,11 @@ loop-k-again c =
     let m = judged-more ds k (c .loop-k-test .taken) ∙ cond-true (valid (at ds k)) _ _ (v .0) in
     let n : length (shapesOf t) ≡ k = ap length (c .loop-k .inv .0) ∙ length-map (take k ds) declaredExtents ∙ length-take-le k ds (omega arith) in
     let room : ltb (length (shapesOf t)) 16 ≡ true = lt-ltb (length (shapesOf t)) 16 (omega (arith, n, c .loop-k-test .taken, c .if-declared-gt16 .left)) in
-    let put = c .add .ensures .after ∙ cond-true (c .add .result) _ _ (c .add .ensures .test ∙ room) in
-    ( put ∙ ap (λ s. s ++ extentsOf (c .in-Some .shape) ∷ []) (c .loop-k .inv .0) ∙ ap (λ e. map declaredExtents (take k ds) ++ e ∷ []) (v .1)
-      ∙ sym (map-more declaredExtents ds k (record { rank = 0; extents = [] }) (c .loop-k-test .taken))
-    , sym m ∙ c .loop-k .inv .1 )
+    let put = c .add .ensures .after ∙ cond-true (c .add .result) _ _ (c .add .ensures .test ∙ room) in (
+      put ∙ ap (λ s. s ++ extentsOf (c .in-Some .shape) ∷ []) (c .loop-k .inv .0) ∙ ap (λ e. map declaredExtents (take k ds) ++ e ∷ []) (v .1)
+          ∙ sym (map-more declaredExtents ds k (record { rank = 0; extents = [] }) (c .loop-k-test .taken)),
+      sym m ∙ c .loop-k .inv .1,
+    )
 
 pub returns : need.returns
 returns c =

@@ -33,4 +33,3 @@ add-result c =
     let n = shapes-length t in
     let k = t .few in
     omega arith
-

@@ -14,9 +14,10 @@ use Rattle.shapes.proofs.table.Table.shape.Needs.{then-v-lt1·by·then-v-lt1, 
 pub returns-then-v-lt1 : need.returns-then-v-lt1
 returns-then-v-lt1 c =
     let t = c .args .self .now in let n = length (shapesOf t) in let v = c .args .v in
-    elim (c .then-v-lt1 .came)
-    [ then-v-lt1·by·then-v-lt1 w ↦ sym (cond-false (has (shapesOf t) v) _ _ (counted-not n v (inl (w .if-v-lt1 .taken))))
-    | then-v-lt1·by·else-v-lt1·then-v-self w ↦ sym (cond-false (has (shapesOf t) v) _ _ (counted-not n v (inr (omega (arith, shapes-length t, w .if-v-self .taken))))) ]
+    elim (c .then-v-lt1 .came) [
+      | then-v-lt1·by·then-v-lt1 w ↦ sym (cond-false (has (shapesOf t) v) _ _ (counted-not n v (inl (w .if-v-lt1 .taken))))
+      | then-v-lt1·by·else-v-lt1·then-v-self w ↦ sym (cond-false (has (shapesOf t) v) _ _ (counted-not n v (inr (omega (arith, shapes-length t, w .if-v-self .taken)))))
+    ]
 
 pub returns : need.returns
 returns c =

@@ -23,5 +23,5 @@ returns g c =
     let p = placed ss (c .args .v) i k (c .in-Continue-k .ensures tt) in
     let l : k < length xs = omega (arith, cell-lt ss (c .args .v) i (p .known) (p .inside), s .holds, p .number, s .elements .ok .0) in
     let e = ap done (getD-read xs k (c .index .result .now) l (c .index .ensures) (a .zero))
-          ∙ ap (λ t. then t (λ n. done (getD xs n (a .zero)))) (c .in-Continue-k .ensures tt) in
+    ∙ ap (λ t. then t (λ n. done (getD xs n (a .zero)))) (c .in-Continue-k .ensures tt) in
     record { answer = e ∙ sym (flat-read a ss xs (c .args .v) i); element = e }
