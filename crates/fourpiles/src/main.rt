@@ -1,79 +1,92 @@
-// Multiplies two tables of metres over each kind of store, and prints a row for each.
-use elements::element::Element;
+// Multiplies two tables of metres over four layouts, and prints a row for each.
+use self::piles::Entry;
+use self::piles::TABLES;
+use self::piles::WIDE;
+use self::piles::bytes;
+use self::piles::elements;
+use self::piles::print_padded;
+use self::piles::print_pile;
 use elements::element::ElementDisplay;
 use elements::element::ElementKind;
-use elements::kind::Kind;
 use elements::metres::DistanceDisplay;
 use elements::metres::DistanceQuantity;
 use elements::metres::Metres;
 use elements::metres::metres;
-use shapes::declaration::Declaration;
-use shapes::refusal::Refusal;
+use images::image::Image;
+use images::image::ImageStore;
+use padding::layer::PaddingStore;
 use shapes::refusal::RefusalError;
-use std::alloc::Global;
 use std::error::AnyError;
-use std::fmt;
 use stores::cells::Cells;
 use stores::cells::CellsStore;
-use stores::store::Store;
 
+mod piles;
 mod plan;
 mod product;
 
-// The tables A (2 3), B (3 2) and C (2 2).
-const TABLES: [Declaration; 3] = [
-    Declaration {
-        rank: 2,
-        extents: [2, 3, 0, 0],
-    },
-    Declaration {
-        rank: 2,
-        extents: [3, 2, 0, 0],
-    },
-    Declaration {
-        rank: 2,
-        extents: [2, 2, 0, 0],
-    },
-];
+// A filler that would show in the product if it were left in a padded place.
+const FILLER: i64 = 7;
 
-// The elements of A, B and C, the last coordinate running fastest.
-const ELEMENTS: [i64; 16] = [1, 2, 3, 4, 5, 6, 1, 0, 2, 1, 0, 3, 0, 0, 0, 0];
-
-// Cells that hold the tables.
-fn cells(heap: Global) -> Result<Cells<Metres>, AnyError> {
-    let mut elements = Vec::new(heap);
-    for x in ELEMENTS {
-        elements.push(metres(x))?;
+fn entry(table: usize, row: u16, column: u16, value: i64) -> Entry<Metres> {
+    Entry {
+        table,
+        index: [row, column],
+        element: metres(value),
     }
-    match Cells::open(&TABLES, elements) {
-        Ok(cells) => Ok(cells),
+}
+
+// A (2 3) = 1 2 3 4 5 6 and B (3 2) = 1 0 2 1 0 3, the last coordinate running fastest.
+fn factors() -> [Entry<Metres>; 12] {
+    [
+        entry(1, 1, 1, 1),
+        entry(1, 1, 2, 2),
+        entry(1, 1, 3, 3),
+        entry(1, 2, 1, 4),
+        entry(1, 2, 2, 5),
+        entry(1, 2, 3, 6),
+        entry(2, 1, 1, 1),
+        entry(2, 1, 2, 0),
+        entry(2, 2, 1, 2),
+        entry(2, 2, 2, 1),
+        entry(2, 3, 1, 0),
+        entry(2, 3, 2, 3),
+    ]
+}
+
+fn print_over_cells(rt: &LibcRuntime) -> Result<(), AnyError> {
+    match Cells::open(&TABLES, elements(rt.alloc(), metres(FILLER), 16)?) {
+        Ok(mut cells) => print_pile(rt, "cells", &factors(), &mut cells),
         Err(declined) => Err(declined.refusal.into()),
     }
 }
 
-// Works out C in a store, and prints it.
-fn print_pile<K: Kind + fmt::Display, S: Store<Item = K>>(
-    rt: &LibcRuntime,
-    name: &str,
-    s: &mut S,
-) -> Result<(), AnyError>
-    requires { ⌜ S·Store .keeps (now s) ⌝ }
-{
-    let Some(t) = product::plan(s, 1, 2, 3) else {
-        return Err("the tables do not fit each other".into());
-    };
-    product::multiply(s, t)?;
-    let c11 = s.read(3, &[1, 1])?;
-    let c12 = s.read(3, &[1, 2])?;
-    let c21 = s.read(3, &[2, 1])?;
-    let c22 = s.read(3, &[2, 2])?;
-    println!(rt, "{name} {c11} {c12} {c21} {c22}")?;
-    Ok(())
+fn print_over_image(rt: &LibcRuntime) -> Result<(), AnyError> {
+    match Image::<Metres>::open(&TABLES, bytes(rt.alloc(), metres(FILLER), [6, 6, 4])?) {
+        Ok(mut image) => print_pile(rt, "image", &factors(), &mut image),
+        Err(declined) => Err(declined.refusal.into()),
+    }
+}
+
+fn print_over_padded_cells(rt: &LibcRuntime) -> Result<(), AnyError> {
+    match Cells::open(&WIDE, elements(rt.alloc(), metres(FILLER), 48)?) {
+        Ok(cells) => print_padded(rt, "pad4-cells", &factors(), cells),
+        Err(declined) => Err(declined.refusal.into()),
+    }
+}
+
+fn print_over_padded_image(rt: &LibcRuntime) -> Result<(), AnyError> {
+    match Image::<Metres>::open(&WIDE, bytes(rt.alloc(), metres(FILLER), [16, 16, 16])?) {
+        Ok(image) => print_padded(rt, "pad4-image", &factors(), image),
+        Err(declined) => Err(declined.refusal.into()),
+    }
 }
 
 fn print_piles(rt: &LibcRuntime) -> Result<(), AnyError> {
     println!(rt, "pile c11 c12 c21 c22")?;
-    print_pile(rt, "cells", &mut cells(rt.alloc())?)
+    print_over_cells(rt)?;
+    print_over_image(rt)?;
+    print_over_padded_cells(rt)?;
+    print_over_padded_image(rt)
 }
 
 fn main(rt: LibcRuntime) -> Result<(), AnyError> {

@@ -2,3 +2,4 @@ pub mod Numbering
 pub mod Extents
 pub mod Tables
 pub mod Asked
+pub mod Columns

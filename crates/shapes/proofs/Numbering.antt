@@ -1,14 +1,14 @@
 -- Indices within extents, and their row-major numbers. Assumes nothing.
 use mathlib.Core.Path.{_≡_, refl, sym, ap, _∙_}
 use mathlib.Core.Bool.{Bool, true, false, _&&_}
-use mathlib.Core.List.{List, [], _∷_}
+use mathlib.Core.List.{List, [], _∷_, _++_}
 use Prim.Native.Nat.{ℕ, zero, suc, _+_, _-_, _*_, _/_, _%_, _<_, _≤_}
-use native.Mathlib.Nat.{add-mul, mul-assoc, mul-comm, mul-one, mul-pos, le-mul-of-pos-right, mod-lt, div-add-mod'}
+use native.Mathlib.Nat.{add-mul, mul-assoc, mul-comm, mul-one, mul-pos, le-mul-of-pos-right, mod-lt, div-add-mod', mul-div-right}
 use native.Mathlib.Omega.{arith}
-use lib.ListN.{length, getD, drop}
+use lib.ListN.{length, getD, take, drop, set}
 use lib.Dec.{leb}
 use Rattle.std.proofs.shelf.Tests.{and-parts, and-from, and-left, and-right, leb-true, le-leb, lt-leb, false≢true}
-use Rattle.std.proofs.shelf.Lists.{drop-more, drop-all, at-drop-more}
+use Rattle.std.proofs.shelf.Lists.{drop-more, drop-all, at-drop-more, append-assoc, take-more-set}
 use Rattle.std.proofs.shelf.Bits.{div-mul-add, mod-mul-add, div-below, mul-add-lt}
 use Rattle.shapes.specs.Places.{within, product, place, unplace}
 
@@ -62,6 +62,11 @@ solid-drop es zero s = s
 solid-drop [] (suc d) s = tt
 solid-drop (e ∷ es) (suc d) s = solid-drop es d (s .1)
 
+solid-at : (es : List ℕ) (d : ℕ) → Solid es → d < length es → 1 ≤ getD es d 0
+solid-at [] d s h = omega arith
+solid-at (e ∷ es) zero s h = s .0
+solid-at (e ∷ es) (suc d) s h = solid-at es d (s .1) (omega arith)
+
 pub product-pos : (es : List ℕ) → Solid es → 0 < product es
 product-pos [] h = omega arith
 product-pos (e ∷ es) h = mul-pos (h .0) (product-pos es (h .1))
@@ -91,6 +96,21 @@ unplace-place (e ∷ es) (c ∷ cs) h =
 
 pub place-same : (es cs ds : List ℕ) → within es cs ≡ true → within es ds ≡ true → place es cs ≡ place es ds → cs ≡ ds
 place-same es cs ds h k e = sym (unplace-place es cs h) ∙ ap (unplace es) e ∙ unplace-place es ds k
+
+pub within-unplace : (es : List ℕ) (n : ℕ) → Solid es → n < product es → within es (unplace es n) ≡ true
+within-unplace [] n s h = refl
+within-unplace (e ∷ es) n s h =
+    let p = product-pos es (s .1) in
+    let l : n / product es < e = div-below n (product es) e p h in
+    within-step e (n / product es + 1) es (unplace es (n % product es)) (omega arith) (omega arith) ∙ within-unplace es (n % product es) (s .1) (mod-lt n p)
+
+pub place-unplace : (es : List ℕ) (n : ℕ) → Solid es → n < product es → place es (unplace es n) ≡ n
+place-unplace [] n s h = omega arith
+place-unplace (e ∷ es) n s h =
+    let p = product-pos es (s .1) in
+    let q = place-unplace es (n % product es) (s .1) (mod-lt n p) in
+    let a : n / product es + 1 - 1 ≡ n / product es = omega arith in
+    rw (a, q) (div-add-mod' n (product es))
 
 -- a loop's step at dimension d
 pub product-more : (es : List ℕ) (d : ℕ) → d < length es → product (drop d es) ≡ getD es d 0 * product (drop (d + 1) es)
@@ -137,3 +157,17 @@ module _ (es cs : List ℕ) (w : within es cs ≡ true) where
       let e = drop-all d es h in
       let r : n * product [] + place [] (drop d cs) ≡ place es cs = ap (λ t. n * product t + place t (drop d cs)) (sym e) ∙ q in
       omega (arith, mul-one n)
+
+-- the coordinates of a number, as far as dimension d
+module _ (es : List ℕ) (s : Solid es) where
+  pub block-more : (d : ℕ) → d < length es → product (drop d es) / getD es d 0 ≡ product (drop (d + 1) es)
+  block-more d h = rw (product-more es d h) (mul-div-right (product (drop (d + 1) es)) (solid-at es d s h))
+
+  pub block-pos : (d : ℕ) → 0 < product (drop d es)
+  block-pos d = product-pos (drop d es) (solid-drop es d s)
+
+  pub index-more : (d n : ℕ) (out rest : List ℕ) → d < length es → d < length out → take d out ++ unplace (drop d es) n ≡ rest → take (d + 1) (set out d (n / product (drop (d + 1) es) + 1)) ++ unplace (drop (d + 1) es) (n % product (drop (d + 1) es)) ≡ rest
+  index-more d n out rest h k q =
+      let y = n / product (drop (d + 1) es) + 1 in
+      let a = at-drop-more (λ t. unplace t n) es d 0 h in
+      rw (take-more-set out d y k) (append-assoc (take d out) (y ∷ []) (unplace (drop (d + 1) es) (n % product (drop (d + 1) es))) ∙ ap (λ t. take d out ++ t) (sym a) ∙ q)

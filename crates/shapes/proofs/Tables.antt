@@ -4,16 +4,17 @@ use mathlib.Core.Bool.{Bool, true, false, cond, _&&_}
 use mathlib.Core.Logic.{_⊎_, ⊎-elim}
 use mathlib.Core.List.{List, [], _∷_, _++_, map}
 use Prim.Native.Nat.{ℕ, zero, suc, _+_, _-_, _*_, _<_, _≤_}
+use native.Mathlib.Numerals.{add-one}
 use native.Mathlib.Omega.{arith}
 use lib.ListN.{length, getD, take, set}
 use lib.Dec.{leb}
-use Rattle.std.proofs.shelf.Tests.{and-parts, and-from, and-left, and-right, leb-true, le-leb, lt-leb, cases-order}
+use Rattle.std.proofs.shelf.Tests.{and-parts, and-from, and-left, and-right, leb-true, le-leb, lt-leb, cond-true, cases-order}
 use Rattle.std.proofs.shelf.Lists.{getD-map, getD-take, length-map, length-take-le, map-push, take-more-set}
 use Rattle.shapes.specs.declared.shape.Shape.{Shape}
 use Rattle.shapes.specs.declared.table.Table.{Table}
 use Rattle.shapes.specs.Places.{within, product, place, total, start, cell, proper, pick, at1, has}
 use Rattle.shapes.specs.Refusals.{done, refused}
-use Rattle.shapes.specs.Shapes.{extentsOf, shapesOf, placeAnswer}
+use Rattle.shapes.specs.Shapes.{extentsOf, shapesOf, shapeAnswer, extentAnswer, placeAnswer}
 use Rattle.shapes.proofs.Numbering.{place-lt, place-same}
 
 -- what a table holds
@@ -49,6 +50,12 @@ pub at1-at : (es : List ℕ) (d : ℕ) → 1 ≤ d → at1 es d ≡ getD es (d -
 at1-at es zero h = absurd (omega arith)
 at1-at es (suc n) h = let e : suc n - 1 ≡ n = omega arith in ap (λ k. getD es k 0) (sym e)
 
+pub pick-next : (ss : List (List ℕ)) (k : ℕ) → pick ss (k + 1) ≡ getD ss k []
+pick-next ss k = rw (add-one k)
+
+pub at1-next : (es : List ℕ) (k : ℕ) → at1 es (k + 1) ≡ getD es k 0
+at1-next es k = rw (add-one k)
+
 -- from 1 to n
 pub counted : (n v : ℕ) → 1 ≤ v → v ≤ n → (leb 1 v && leb v n) ≡ true
 counted n v a b = and-from (leb 1 v) (leb v n) (le-leb 1 v a) (le-leb v n b)
@@ -58,6 +65,16 @@ counted-parts n v h = let p = and-parts (leb 1 v) (leb v n) h in (leb-true 1 v (
 
 pub counted-not : (n v : ℕ) → (v < 1) ⊎ (n < v) → (leb 1 v && leb v n) ≡ false
 counted-not n v h = ⊎-elim (λ l. and-left (leb 1 v) (leb v n) (lt-leb 1 v l)) (λ l. and-right (leb 1 v) (leb v n) (lt-leb v n l)) h
+
+-- a shape and an extent that are asked for, and are there
+pub shape-next : (ss : List (List ℕ)) (k : ℕ) → k < length ss → shapeAnswer ss (k + 1) ≡ done (getD ss k [])
+shape-next ss k l = cond-true (has ss (k + 1)) _ _ (counted (length ss) (k + 1) (omega arith) (omega arith)) ∙ ap done (pick-next ss k)
+
+pub extent-next : (ss : List (List ℕ)) (v d : ℕ) → has ss v ≡ true → d < length (pick ss v) → extentAnswer ss v (d + 1) ≡ done (getD (pick ss v) d 0)
+extent-next ss v d h l =
+    let n = length (pick ss v) in
+    cond-true (has ss v && (leb 1 (d + 1) && leb (d + 1) n)) _ _ (and-from (has ss v) (leb 1 (d + 1) && leb (d + 1) n) h (counted n (d + 1) (omega arith) (omega arith)))
+    ∙ ap done (at1-next (pick ss v) d)
 
 -- how many places there are up to a variable
 pub total-more : (ss : List (List ℕ)) (k : ℕ) → k < length ss → total (take (k + 1) ss) ≡ total (take k ss) + product (getD ss k [])

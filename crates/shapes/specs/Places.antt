@@ -3,6 +3,7 @@
 --   product    how many places there are
 --   place      the number of a place from 0, row-major: the last coordinate runs fastest
 --   unplace    the place of a number
+--   column     the number of a place from 0, column-major: the first coordinate runs fastest
 --   each       every extent is from 1 to 64
 --   proper     a shape: rank at most 4, extents 1 to 64, at most 4,096 places
 --   pick       the extents of variable v, from 1, in a list of shapes; none where there is no v
@@ -35,6 +36,11 @@ place (e ∷ es) (c ∷ cs) = (c - 1) * product es + place es cs
 abbrev pub unplace : List ℕ → ℕ → List ℕ
 unplace [] n = []
 unplace (e ∷ es) n = (n / product es + 1) ∷ unplace es (n % product es)
+
+abbrev pub column : List ℕ → List ℕ → ℕ
+column [] cs = 0
+column (e ∷ es) [] = 0
+column (e ∷ es) (c ∷ cs) = (c - 1) + e * column es cs
 
 abbrev pub each : List ℕ → Bool
 each [] = true

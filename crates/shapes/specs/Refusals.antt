@@ -10,7 +10,7 @@ use Rattle.std.specs.declared.result.Result.{Result}
 use Rattle.std.specs.declared.result.Result.the-variants.{Ok, Err}
 use Rattle.shapes.specs.declared.refusal.Declined.{Declined}
 use Rattle.shapes.specs.declared.refusal.Refusal.{Refusal}
-use Rattle.shapes.specs.declared.refusal.Refusal.the-variants.{NoSuchVariable, OutOfReach, SpareTakesZero, TooManyDeclarations, BadDeclaration, TooFewElements}
+use Rattle.shapes.specs.declared.refusal.Refusal.the-variants.{NoSuchVariable, OutOfReach, SpareTakesZero, TooManyDeclarations, BadDeclaration, TooFewElements, BadHeader, BadPair, BadCode, BadVectorLength, TooWide, OtherCountBelow, OtherShapeBelow}
 
 abbrev pub numberOf : Refusal → ℕ
 numberOf NoSuchVariable = 1
@@ -19,6 +19,13 @@ numberOf SpareTakesZero = 3
 numberOf TooManyDeclarations = 4
 numberOf (BadDeclaration k) = 4
 numberOf TooFewElements = 5
+numberOf BadHeader = 6
+numberOf (BadPair k) = 7
+numberOf (BadCode k) = 8
+numberOf BadVectorLength = 9
+numberOf (TooWide k) = 10
+numberOf OtherCountBelow = 11
+numberOf (OtherShapeBelow k) = 11
 
 abbrev pub positionOf : Refusal → ℕ
 positionOf NoSuchVariable = 0
@@ -27,6 +34,13 @@ positionOf SpareTakesZero = 0
 positionOf TooManyDeclarations = 0
 positionOf (BadDeclaration k) = k
 positionOf TooFewElements = 0
+positionOf BadHeader = 0
+positionOf (BadPair k) = k
+positionOf (BadCode k) = k
+positionOf BadVectorLength = 0
+positionOf (TooWide k) = k
+positionOf OtherCountBelow = 0
+positionOf (OtherShapeBelow k) = k
 
 pub data Answer (X : Type 0) : Type 0 where
   done : X → Answer X

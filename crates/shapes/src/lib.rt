@@ -2,6 +2,8 @@
 // A `Shape` is a declaration that was judged, so it holds nothing that is no shape; a `Table` holds those of all variables.
 pub mod declaration;
 mod declaring;
+pub mod index;
+mod indices;
 mod lookups;
 mod measures;
 mod places;

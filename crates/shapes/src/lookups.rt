@@ -2,7 +2,8 @@
 ghost use mathlib.Core.Path.{_≡_};
 ghost use Prim.Native.Nat.{_*_, _≤_};
 ghost use lib.ListN.{length, take};
-ghost use Rattle.shapes.specs.Places.{total as total-of};
+ghost use mathlib.Core.Bool.{_&&_};
+ghost use Rattle.shapes.specs.Places.{total as total-of, has, pick, within};
 ghost use Rattle.shapes.specs.Refusals.{answered, answer};
 ghost use Rattle.shapes.specs.Shapes.{extentsOf, shapesOf, shapeAnswer, rankAnswer, extentAnswer, placeAnswer};
 use super::refusal::Refusal;
@@ -18,7 +19,7 @@ impl Table {
     }
 
     // The shape of a variable, from 1.
-    fn shape(&self, v: usize) -> Result<Shape, Refusal>
+    pub fn shape(&self, v: usize) -> Result<Shape, Refusal>
         ensures { λ r. ⌜ answer extentsOf r ≡ shapeAnswer (shapesOf (now (self .entry))) v ⌝ }
     {
         if v < 1 || v > self.len {
@@ -60,6 +61,16 @@ impl Table {
         match self.shape(v)?.place(index) {
             Some(n) => Ok(self.before(v - 1) + n),
             None => Err(Refusal::OutOfReach),
+        }
+    }
+
+    // Whether an index lies in the shape of a variable.
+    pub fn contains(&self, v: usize, index: &[u16]) -> bool
+        ensures { λ r. ⌜ r ≡ (has (shapesOf (now (self .entry))) v && within (pick (shapesOf (now (self .entry))) v) (now (index .entry))) ⌝ }
+    {
+        match self.shape(v) {
+            Ok(shape) => shape.contains(index),
+            Err(_) => false,
         }
     }
 

@@ -2,10 +2,12 @@
 ghost use mathlib.Core.Path.{_≡_};
 ghost use mathlib.Core.List.{[]};
 ghost use lib.ListN.{length};
-ghost use Rattle.std.specs.Options.{mapped};
+ghost use Prim.Native.Nat.{_<_};
+ghost use Rattle.std.specs.Options.{mapped, Cases as BySome};
 ghost use Rattle.shapes.specs.Places.{product, within};
-ghost use Rattle.shapes.specs.Shapes.{extentsOf, shapeDeclared, placeIn};
+ghost use Rattle.shapes.specs.Shapes.{extentsOf, shapeDeclared, placeIn, columnIn, coordinates, indexIn};
 use super::declaration::Declaration;
+use super::index::Index;
 use super::places;
 use super::shape::Shape;
 
@@ -77,5 +79,31 @@ impl Shape {
         } else {
             None
         }
+    }
+
+    // The number of a place, column-major from 0, if it lies in the shape.
+    pub fn column(&self, index: &[u16]) -> Option<usize>
+        ensures value { λ r. ⌜ r ≡ columnIn (extentsOf (now (self .entry))) (now (index .entry)) ⌝ }
+        ensures bound { λ r. ⌜ BySome r (Unit {0}) (λ n. n < 4096) ⌝ }
+    {
+        let es = self.extents();
+        if places::contains(es, index) {
+            Some(places::column(es, index))
+        } else {
+            None
+        }
+    }
+
+    // The index whose row-major number this is, if there is one.
+    pub fn index(&self, number: usize) -> Option<Index>
+        ensures { λ r. ⌜ mapped coordinates r ≡ indexIn (extentsOf (now (self .entry))) number ⌝ }
+    {
+        if number >= self.size() {
+            return None;
+        }
+        let es = self.extents();
+        let coords = places::coordinates_of(es, number);
+        let len = es.len();
+        Some(Index { len, coords })
     }
 }

@@ -1,9 +1,9 @@
 // Places and their row-major numbers, over any list of extents.
 ghost use mathlib.Core.Path.{_≡_};
 ghost use mathlib.Core.Bool.{true};
-ghost use Prim.Native.Nat.{_≤_};
-ghost use lib.ListN.{length};
-ghost use Rattle.shapes.specs.Places.{each, product as product-of, within, place};
+ghost use Prim.Native.Nat.{_<_, _≤_};
+ghost use lib.ListN.{length, take};
+ghost use Rattle.shapes.specs.Places.{each, product as product-of, within, place, unplace, column as column-of};
 ghost use Rattle.shapes.specs.Shapes.{zeros};
 
 // Whether each extent is from 1 to 64.
@@ -65,6 +65,38 @@ pub fn number(es: &[u16], index: &[u16]) -> usize
     let mut n: usize = 0;
     for d in 0..es.len() {
         n = n * es[d] as usize + (index[d] as usize - 1);
+    }
+    n
+}
+
+// The place of a number.
+pub fn coordinates_of(es: &[u16], number: usize) -> [u16; 8]
+    requires sound { ⌜ each (now es) ≡ true ⌝ }
+    requires rank { ⌜ length (now es) ≤ 4 ⌝ }
+    requires inside { ⌜ number < product-of (now es) ⌝ }
+    requires places { ⌜ product-of (now es) ≤ 4096 ⌝ }
+    ensures { λ r. ⌜ take (length (now (es .entry))) r ≡ unplace (now (es .entry)) number ⌝ }
+{
+    let mut coords = [0u16; 8];
+    let mut block = product(es);
+    let mut left = number;
+    for d in 0..es.len() {
+        block /= es[d] as usize;
+        coords[d] = (left / block) as u16 + 1;
+        left %= block;
+    }
+    coords
+}
+
+// The number of a place, the first coordinate running fastest.
+pub fn column(es: &[u16], index: &[u16]) -> usize
+    requires inside { ⌜ within (now es) (now index) ≡ true ⌝ }
+    requires places { ⌜ product-of (now es) ≤ 4096 ⌝ }
+    ensures { λ r. ⌜ r ≡ column-of (now (es .entry)) (now (index .entry)) ⌝ }
+{
+    let mut n: usize = 0;
+    for d in (0..es.len()).rev() {
+        n = (index[d] as usize - 1) + es[d] as usize * n;
     }
     n
 }

@@ -13,6 +13,13 @@ pub enum Refusal {
     TooManyDeclarations,
     BadDeclaration(usize),
     TooFewElements,
+    BadHeader,
+    BadPair(usize),
+    BadCode(usize),
+    BadVectorLength,
+    TooWide(usize),
+    OtherCountBelow,
+    OtherShapeBelow(usize),
 }
 
 impl Refusal {
@@ -25,6 +32,12 @@ impl Refusal {
             Refusal::SpareTakesZero => 3,
             Refusal::TooManyDeclarations | Refusal::BadDeclaration(_) => 4,
             Refusal::TooFewElements => 5,
+            Refusal::BadHeader => 6,
+            Refusal::BadPair(_) => 7,
+            Refusal::BadCode(_) => 8,
+            Refusal::BadVectorLength => 9,
+            Refusal::TooWide(_) => 10,
+            Refusal::OtherCountBelow | Refusal::OtherShapeBelow(_) => 11,
         }
     }
 
@@ -32,7 +45,11 @@ impl Refusal {
         ensures { λ r. ⌜ r ≡ positionOf self ⌝ }
     {
         match self {
-            Refusal::BadDeclaration(position) => position,
+            Refusal::BadDeclaration(position)
+            | Refusal::BadPair(position)
+            | Refusal::BadCode(position)
+            | Refusal::TooWide(position)
+            | Refusal::OtherShapeBelow(position) => position,
             _ => 0,
         }
     }
@@ -45,6 +62,13 @@ impl Refusal {
             Refusal::TooManyDeclarations => "there are more than 16 declarations",
             Refusal::BadDeclaration(_) => "a declaration is no shape with zeros after it",
             Refusal::TooFewElements => "there are fewer elements than the shapes have places",
+            Refusal::BadHeader => "the header is not of this kind and number of variables",
+            Refusal::BadPair(_) => "a pair or its part does not lie where it may",
+            Refusal::BadCode(_) => "a cell holds no code of the kind",
+            Refusal::BadVectorLength => "the vector length is not from 1 to 16",
+            Refusal::TooWide(_) => "a declaration is no shape once its extents are rounded up",
+            Refusal::OtherCountBelow => "the store below has another number of variables",
+            Refusal::OtherShapeBelow(_) => "the store below has another shape than the rounded one",
         }
     }
 }

@@ -64,6 +64,3 @@ module _ {E : Type 0} (a : Algebra E) (ss : List (List ℕ)) (xs : List E) (v : 
             let p = and-parts (has ss u) (within (pick ss u) j) r in
             getD-set-other xs (cell ss v i) (cell ss u j) x (a .zero) (cell-other ss v u i j h w (p .0) (p .1) (ne refl));
       }
-
-  pub flat-same : (x : E) → Written false (flat (a .zero) ss xs) v i x (flat (a .zero) ss xs)
-  flat-same x = record { shapes = refl; reach = refl; put = λ e. absurd (both-ways false refl e); others = λ u j r ne. refl }

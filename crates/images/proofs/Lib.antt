@@ -1,0 +1,4 @@
+pub mod Numbers
+pub mod Patches
+pub mod Layouts
+pub mod Cells
