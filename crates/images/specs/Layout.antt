@@ -15,7 +15,7 @@ use Rattle.std.specs.Options.{isSome}
 use Rattle.elements.specs.Algebra.{Algebra}
 use Rattle.shapes.specs.Places.{product, column, pick, has}
 use Rattle.shapes.specs.Refusals.{Answer, done, refused, then}
-use Rattle.stores.specs.Matching.{same}
+use Rattle.shapes.specs.Dimensions.{same}
 use Rattle.images.specs.Bytes.{numberAt}
 
 abbrev pub offset : List ℕ → ℕ → ℕ

@@ -109,7 +109,10 @@ pub impl<K: Kind> Store for Image<K> as ImageStore {
     }
 
     fn read(&self, v: usize, index: &[u16]) -> Result<K, Refusal> {
-        let at = self.spot(v, index)?;
+        let at = match self.spot(v, index) {
+            Ok(at) => at,
+            Err(refusal) => return Err(refusal),
+        };
         let code = number64(self.bytes.as_slice(), at);
         Ok(K::decode(code).unwrap_or(K::zero()))
     }

@@ -10,7 +10,7 @@ use Rattle.std.specs.declared.result.Result.{Result}
 use Rattle.std.specs.declared.result.Result.the-variants.{Ok, Err}
 use Rattle.shapes.specs.declared.refusal.Declined.{Declined}
 use Rattle.shapes.specs.declared.refusal.Refusal.{Refusal}
-use Rattle.shapes.specs.declared.refusal.Refusal.the-variants.{NoSuchVariable, OutOfReach, SpareTakesZero, TooManyDeclarations, BadDeclaration, TooFewElements, BadHeader, BadPair, BadCode, BadVectorLength, TooWide, OtherCountBelow, OtherShapeBelow}
+use Rattle.shapes.specs.declared.refusal.Refusal.the-variants.{NoSuchVariable, OutOfReach, SpareTakesZero, TooManyDeclarations, BadDeclaration, TooFewElements, BadHeader, BadPair, BadCode, BadVectorLength, TooWide, OtherCountBelow, OtherShapeBelow, TooManyRows, BadNode, BadOperand, NoType, TooDeep, BadTarget, OtherType, OutOfSheet}
 
 abbrev pub numberOf : Refusal → ℕ
 numberOf NoSuchVariable = 1
@@ -26,6 +26,14 @@ numberOf BadVectorLength = 9
 numberOf (TooWide k) = 10
 numberOf OtherCountBelow = 11
 numberOf (OtherShapeBelow k) = 11
+numberOf TooManyRows = 12
+numberOf (BadNode k) = 13
+numberOf (BadOperand k) = 14
+numberOf (NoType k) = 15
+numberOf (TooDeep k) = 16
+numberOf (BadTarget k) = 17
+numberOf (OtherType k) = 18
+numberOf OutOfSheet = 24
 
 abbrev pub positionOf : Refusal → ℕ
 positionOf NoSuchVariable = 0
@@ -41,6 +49,14 @@ positionOf BadVectorLength = 0
 positionOf (TooWide k) = k
 positionOf OtherCountBelow = 0
 positionOf (OtherShapeBelow k) = k
+positionOf TooManyRows = 0
+positionOf (BadNode k) = k
+positionOf (BadOperand k) = k
+positionOf (NoType k) = k
+positionOf (TooDeep k) = k
+positionOf (BadTarget k) = k
+positionOf (OtherType k) = k
+positionOf OutOfSheet = 0
 
 pub data Answer (X : Type 0) : Type 0 where
   done : X → Answer X

@@ -7,7 +7,7 @@ ghost use Rattle.shapes.specs.Places.{each, product as product-of, within, pla
 ghost use Rattle.shapes.specs.Shapes.{zeros};
 
 // Whether each extent is from 1 to 64.
-pub fn in_range(es: &[u16]) -> bool
+pub(super) fn in_range(es: &[u16]) -> bool
     ensures { λ r. ⌜ r ≡ each (now (es .entry)) ⌝ }
 {
     for x in es {
@@ -19,7 +19,7 @@ pub fn in_range(es: &[u16]) -> bool
     true
 }
 
-pub fn all_zero(es: &[u16]) -> bool
+pub(super) fn all_zero(es: &[u16]) -> bool
     ensures { λ r. ⌜ r ≡ zeros (now (es .entry)) ⌝ }
 {
     for e in es {
@@ -31,7 +31,7 @@ pub fn all_zero(es: &[u16]) -> bool
 }
 
 // How many places there are.
-pub fn product(es: &[u16]) -> usize
+pub(super) fn product(es: &[u16]) -> usize
     requires { ⌜ each (now es) ≡ true ⌝ ∗ ⌜ length (now es) ≤ 4 ⌝ }
     ensures { λ r. ⌜ r ≡ product-of (now (es .entry)) ⌝ }
 {
@@ -43,7 +43,7 @@ pub fn product(es: &[u16]) -> usize
 }
 
 // Whether an index lies in the extents.
-pub fn contains(es: &[u16], index: &[u16]) -> bool
+pub(super) fn contains(es: &[u16], index: &[u16]) -> bool
     ensures { λ r. ⌜ r ≡ within (now (es .entry)) (now (index .entry)) ⌝ }
 {
     if es.len() != index.len() {
@@ -58,7 +58,7 @@ pub fn contains(es: &[u16], index: &[u16]) -> bool
 }
 
 // The number of a place, the last coordinate running fastest.
-pub fn number(es: &[u16], index: &[u16]) -> usize
+pub(super) fn number(es: &[u16], index: &[u16]) -> usize
     requires { ⌜ within (now es) (now index) ≡ true ⌝ ∗ ⌜ product-of (now es) ≤ 4096 ⌝ }
     ensures { λ r. ⌜ r ≡ place (now (es .entry)) (now (index .entry)) ⌝ }
 {
@@ -70,7 +70,7 @@ pub fn number(es: &[u16], index: &[u16]) -> usize
 }
 
 // The place of a number.
-pub fn coordinates_of(es: &[u16], number: usize) -> [u16; 8]
+pub(super) fn coordinates_of(es: &[u16], number: usize) -> [u16; 8]
     requires sound { ⌜ each (now es) ≡ true ⌝ }
     requires rank { ⌜ length (now es) ≤ 4 ⌝ }
     requires inside { ⌜ number < product-of (now es) ⌝ }
@@ -89,7 +89,7 @@ pub fn coordinates_of(es: &[u16], number: usize) -> [u16; 8]
 }
 
 // The number of a place, the first coordinate running fastest.
-pub fn column(es: &[u16], index: &[u16]) -> usize
+pub(super) fn column(es: &[u16], index: &[u16]) -> usize
     requires inside { ⌜ within (now es) (now index) ≡ true ⌝ }
     requires places { ⌜ product-of (now es) ≤ 4096 ⌝ }
     ensures { λ r. ⌜ r ≡ column-of (now (es .entry)) (now (index .entry)) ⌝ }

@@ -20,6 +20,14 @@ pub enum Refusal {
     TooWide(usize),
     OtherCountBelow,
     OtherShapeBelow(usize),
+    TooManyRows,
+    BadNode(usize),
+    BadOperand(usize),
+    NoType(usize),
+    TooDeep(usize),
+    BadTarget(usize),
+    OtherType(usize),
+    OutOfSheet,
 }
 
 impl Refusal {
@@ -38,6 +46,14 @@ impl Refusal {
             Refusal::BadVectorLength => 9,
             Refusal::TooWide(_) => 10,
             Refusal::OtherCountBelow | Refusal::OtherShapeBelow(_) => 11,
+            Refusal::TooManyRows => 12,
+            Refusal::BadNode(_) => 13,
+            Refusal::BadOperand(_) => 14,
+            Refusal::NoType(_) => 15,
+            Refusal::TooDeep(_) => 16,
+            Refusal::BadTarget(_) => 17,
+            Refusal::OtherType(_) => 18,
+            Refusal::OutOfSheet => 24,
         }
     }
 
@@ -49,7 +65,13 @@ impl Refusal {
             | Refusal::BadPair(position)
             | Refusal::BadCode(position)
             | Refusal::TooWide(position)
-            | Refusal::OtherShapeBelow(position) => position,
+            | Refusal::OtherShapeBelow(position)
+            | Refusal::BadNode(position)
+            | Refusal::BadOperand(position)
+            | Refusal::NoType(position)
+            | Refusal::TooDeep(position)
+            | Refusal::BadTarget(position)
+            | Refusal::OtherType(position) => position,
             _ => 0,
         }
     }
@@ -69,6 +91,18 @@ impl Refusal {
             Refusal::TooWide(_) => "a declaration is no shape once its extents are rounded up",
             Refusal::OtherCountBelow => "the store below has another number of variables",
             Refusal::OtherShapeBelow(_) => "the store below has another shape than the rounded one",
+            Refusal::TooManyRows => "there are more than 256 nodes or 64 statements",
+            Refusal::BadNode(_) =>
+                "a node has no kind from 1 to 8, or a field that it does not use is not zero",
+            Refusal::BadOperand(_) =>
+                "a node names a variable that is not declared, or an operand that is no earlier node",
+            Refusal::NoType(_) => "a node's rule gives no extents",
+            Refusal::TooDeep(_) =>
+                "a node has a rank above 8, a depth above 16 or a nesting above 3",
+            Refusal::BadTarget(_) => "a statement names a variable or a node that is not there",
+            Refusal::OtherType(_) => "a statement's variable and node have different types",
+            Refusal::OutOfSheet =>
+                "the variable is not declared, or the statement number is out of range",
         }
     }
 }

@@ -1,19 +1,13 @@
 -- Whether a store has just the shapes that are wanted.
---   same         two lists of extents are equal
 --   difference   none where two lists of shapes are equal; else 0 where their lengths differ, or the first that differs, from 1
-use mathlib.Core.Bool.{Bool, true, false, cond, _&&_}
+use mathlib.Core.Bool.{cond}
 use mathlib.Core.List.{List, [], _∷_}
 use Prim.Native.Nat.{ℕ, _+_}
 use lib.Dec.{eqb}
 use lib.ListN.{length}
 use Rattle.std.specs.declared.option.Option.{Option}
 use Rattle.std.specs.declared.option.Option.the-variants.{Some, None}
-
-abbrev pub same : List ℕ → List ℕ → Bool
-same [] [] = true
-same [] (y ∷ ys) = false
-same (x ∷ xs) [] = false
-same (x ∷ xs) (y ∷ ys) = eqb x y && same xs ys
+use Rattle.shapes.specs.Dimensions.{same}
 
 -- k is the number of the first shape of the lists, which are as long as each other
 abbrev pub firstOther : ℕ → List (List ℕ) → List (List ℕ) → Option ℕ

@@ -7,8 +7,8 @@ use Rattle.shapes.specs.Places.{has, pick}
 use Rattle.shapes.specs.Shapes.{extentsOf}
 use Rattle.shapes.proofs.Asked.{done-since, refused-since, never-refused, done-same}
 use Rattle.shapes.proofs.Tables.{extent-next}
-use Rattle.stores.specs.Matching.{same}
-use Rattle.stores.proofs.Compared.{same-uneven, same-bad, same-good, same-all}
+use Rattle.shapes.specs.Dimensions.{same}
+use Rattle.shapes.proofs.Equal.{same-uneven, same-bad, same-good, same-all}
 use Rattle.stores.proofs.matching.matches.Needs as need
 
 pub returns-in-rest : need.returns-in-rest

@@ -1,0 +1,5 @@
+pub mod Infos
+pub mod Typing
+pub mod Matching
+pub mod Passing
+pub mod Writing
