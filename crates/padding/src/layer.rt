@@ -76,7 +76,7 @@ pub fn open<K: Kind, S: Store<Item = K>>(
     }
 }
 
-impl<S> Padding<S> {
+impl<S: Store> Padding<S> {
     // The store below, given back.
     pub fn close(self) -> S
         ensures { λ r. ⌜ r ≡ self .below ⌝ }
