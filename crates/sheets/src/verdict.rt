@@ -32,6 +32,7 @@ pub fn judge(
 ) -> Result<(), Refusal>
     ensures answers { λ r. ⌜ answered r ≡ then (judgedSheet (now (declared .entry)) (now (nodes .entry)) (now (statements .entry))) (λ _. done tt) ⌝ }
     ensures fills { λ _. ⌜ contents (now (sheet .exit)) ≡ filled (judgedSheet (now (declared .entry)) (now (nodes .entry)) (now (statements .entry))) (contents (now (sheet .entry))) ⌝ }
+    ensures same { λ r. ⌜ (isOk r ≡ false → now (sheet .exit) ≡ now (sheet .entry)) ⌝ }
     ensures means { λ r. ⌜ Means (now (declared .entry)) (now (nodes .entry)) (now (statements .entry)) (isOk r) ⌝ }
 {
     match judged_sheet(declared, nodes, statements) {

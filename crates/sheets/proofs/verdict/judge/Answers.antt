@@ -40,6 +40,7 @@ returns-in-Ok c =
     record {
       answers = ap (λ a. then a (λ (_ : Contents). done tt)) e;
       fills = ap (λ a. filled a (contents (c .args .sheet .now))) e;
+      same = λ h. absurd (false≢true (sym h));
       means = passing ds ns sts (contents (c .in-Ok .checked)) e;
     }
 
@@ -49,5 +50,6 @@ returns-in-Err c =
     record {
       answers = ap (λ a. then a (λ (_ : Contents). done tt)) e;
       fills = ap (λ a. filled a (contents (c .args .sheet .now))) e;
+      same = λ _. refl;
       means = refusing ds ns sts (numberOf (c .in-Err .refusal)) (positionOf (c .in-Err .refusal)) e;
     }
