@@ -1,4 +1,7 @@
 // Works out a product of tables and its trace in both kinds of element over four layouts, and prints each figure beside the expected one.
+
+#![tactic(auto)]
+
 use self::layouts::{
     print_over_cells, print_over_image, print_over_padded_cells, print_over_padded_image,
 };

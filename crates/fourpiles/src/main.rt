@@ -1,4 +1,7 @@
 // Multiplies two tables of metres over four layouts, and prints a row for each.
+
+#![tactic(auto)]
+
 use self::piles::{Entry, TABLES, WIDE, bytes, elements, print_padded, print_pile};
 use elements::metres::{Metres, metres};
 use images::image::Image;

@@ -2,7 +2,7 @@
 ghost use Rattle.std.specs.Prelude.{◌≡◌, ◌+◌, ◌*◌, ◌≤◌, length, if◌then◌else◌, Some, None};
 ghost use Rattle.refusals.specs.Refusals.{answered, done};
 ghost use Rattle.shapes.specs.Shapes.{extents_of, shapes_of};
-ghost use Rattle.images.specs.Layout.{offset as offset_of, size as type_size, headed, paired, pairs, codes_of, codes};
+ghost use Rattle.images.specs.Layout.{offset as offset_of, size as size_of, headed, paired, pairs, codes_of, codes};
 
 use super::buffer::{number32, number64};
 use elements::kind::Kind;
@@ -39,7 +39,7 @@ pub(super) fn check_pairs(bytes: &[u8], table: &Table) -> Result<(), Refusal>
 fn part_end(bytes: &[u8], v: usize, end: usize, shape: &Shape) -> Option<usize>
     requires low { 1 ≤ v }
     requires high { v ≤ 16 }
-    ensures { result ≡ (if paired bytes.now v end (extents_of shape.now) then Some (offset_of bytes.now v + type_size bytes.now v) else None) }
+    ensures { result ≡ (if paired bytes.now v end (extents_of shape.now) then Some (offset_of bytes.now v + size_of bytes.now v) else None) }
 {
     if 8 * v + 4 > bytes.len() {
         return None;

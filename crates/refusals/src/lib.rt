@@ -1,2 +1,5 @@
 // Every refusal of the engine, with its number and position.
+
+#![tactic(auto)]
+
 pub mod refusal;

@@ -1,4 +1,7 @@
 // Multiplies two tables of metres by runs over four layouts, and prints a row for each.
+
+#![tactic(auto)]
+
 use self::piles::{TABLES, WIDE, bytes};
 use self::printing::print_rows;
 use self::product::{calls, sheet};

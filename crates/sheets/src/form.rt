@@ -1,6 +1,6 @@
 // The forms that a node may have.
 ghost use Rattle.std.specs.Prelude.{◌≡◌};
-ghost use Rattle.sheets.specs.Forms.{form_of, tidy as Tidy-of};
+ghost use Rattle.sheets.specs.Forms.{form_of, tidy as tidy_of};
 
 use super::node::Node;
 
@@ -35,7 +35,7 @@ pub(super) fn form_of(kind: u16) -> Option<Form>
 
 // Whether every field that the form does not use is zero.
 pub(super) fn tidy(form: Form, node: Node) -> bool
-    ensures { result ≡ Tidy-of form node }
+    ensures { result ≡ tidy_of form node }
 {
     match form {
         Form::Variable => node.b == 0 && node.m == 0 && node.n == 0,

@@ -1,5 +1,8 @@
 // Sheets: tables of declarations, nodes and statements, and the verdict on them.
 // A sheet that was not judged has another type than one that passed.
+
+#![tactic(auto)]
+
 mod asking;
 pub mod checked;
 mod form;
