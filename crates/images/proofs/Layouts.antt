@@ -4,7 +4,7 @@ use Rattle.std.proofs.lemmas.List.{at_drop_more, at_drop_all}
 use Rattle.std.proofs.lemmas.Bool.{and_parts, leb-true, eqb-true, false≢true}
 use Rattle.elements.specs.Algebra.{Algebra}
 use Rattle.indices.specs.Places.{product, pick, has}
-use Rattle.refusals.specs.Refusals.{Answer, done, refused, then}
+use Rattle.refusals.specs.Refusals.{Answer, done, refused, and_then}
 use Rattle.shapes.proofs.Tables.{counted_parts}
 use Rattle.shapes.specs.declared.declaration.Declaration.{Declaration}
 use Rattle.shapes.specs.Shapes.{declared}
@@ -16,7 +16,7 @@ done_if : (b : Bool) (n p : ℕ) (rest : Answer Unit) → cond b rest (refused n
 done_if true n p rest e = (refl, e)
 done_if false n p rest e = absurd (let z : ◌≡◌ {A = ℕ} 0 1 = cc in omega arith)
 
-done_then : (first second : Answer Unit) → then first (λ _. second) ≡ done (tt {0}) → (first ≡ done tt) × (second ≡ done tt)
+done_then : (first second : Answer Unit) → and_then first (λ _. second) ≡ done (tt {0}) → (first ≡ done tt) × (second ≡ done tt)
 done_then (done u) second e = (refl, e)
 done_then (refused n p) second e = absurd (let z : ◌≡◌ {A = ℕ} 0 1 = cc in omega arith)
 
@@ -134,16 +134,16 @@ module _ {E : Type 0} (a : Algebra E) (bs : List ℕ) (ss : List (List ℕ)) (p 
 pub opened_laid : {E : Type 0} (a : Algebra E) (ds : List Declaration) (bs : List ℕ) (ss : List (List ℕ)) → done ss ≡ image_answer a ds bs → Laid a ss bs
 opened_laid a ds bs ss e = by_shapes (declared ds) e
   where
-    by_codes : (ts : List (List ℕ)) (p q : Answer Unit) → pairs bs ts ≡ p → codes a bs ts ≡ q → done ss ≡ then p (λ _. then q (λ _. done ts)) → Laid a ss bs
+    by_codes : (ts : List (List ℕ)) (p q : Answer Unit) → pairs bs ts ≡ p → codes a bs ts ≡ q → done ss ≡ and_then p (λ _. and_then q (λ _. done ts)) → Laid a ss bs
     by_codes ts (done u) (done w) p q e = let f : ts ≡ ss = cc in subst (λ t. Laid a t bs) f (laid a bs ts p q)
     by_codes ts (done u) (refused n k) p q e = absurd (let z : ◌≡◌ {A = ℕ} 0 1 = cc in omega arith)
     by_codes ts (refused n k) q p r e = absurd (let z : ◌≡◌ {A = ℕ} 0 1 = cc in omega arith)
 
-    by_header : (ts : List (List ℕ)) (b : Bool) → done ss ≡ cond b (then (pairs bs ts) (λ _. then (codes a bs ts) (λ _. done ts))) (refused 6 0) → Laid a ss bs
+    by_header : (ts : List (List ℕ)) (b : Bool) → done ss ≡ cond b (and_then (pairs bs ts) (λ _. and_then (codes a bs ts) (λ _. done ts))) (refused 6 0) → Laid a ss bs
     by_header ts true e = by_codes ts (pairs bs ts) (codes a bs ts) refl refl e
     by_header ts false e = absurd (let z : ◌≡◌ {A = ℕ} 0 1 = cc in omega arith)
 
-    by_shapes : (d : Answer (List (List ℕ))) → done ss ≡ then d (λ ts. cond (headed a.number (length ts) bs) (then (pairs bs ts) (λ _. then (codes a bs ts) (λ _. done ts))) (refused 6 0)) → Laid a ss bs
+    by_shapes : (d : Answer (List (List ℕ))) → done ss ≡ and_then d (λ ts. cond (headed a.number (length ts) bs) (and_then (pairs bs ts) (λ _. and_then (codes a bs ts) (λ _. done ts))) (refused 6 0)) → Laid a ss bs
     by_shapes (done ts) e = by_header ts (headed a.number (length ts) bs) e
     by_shapes (refused n k) e = absurd (let z : ◌≡◌ {A = ℕ} 0 1 = cc in omega arith)
 
@@ -151,7 +151,7 @@ opened_laid a ds bs ss e = by_shapes (declared ds) e
 pub pairs_more : (bs : List ℕ) (ss : List (List ℕ)) (k end : ℕ) → k < length ss → pairs_from bs (k + 1) end (drop k ss) ≡ cond (paired bs (k + 1) end (get_or ss k [])) (pairs_from bs (k + 1 + 1) (offset bs (k + 1) + size bs (k + 1)) (drop (k + 1) ss)) (refused 7 (k + 1))
 pairs_more bs ss k end h = at_drop_more (pairs_from bs (k + 1) end) ss k [] h
 
-pub codes_more : {E : Type 0} (a : Algebra E) (bs : List ℕ) (ss : List (List ℕ)) (k p : ℕ) → k < length ss → codes_from a bs (k + 1) p (drop k ss) ≡ then (codes_of a bs (offset bs (k + 1)) p (product (get_or ss k []))) (λ _. codes_from a bs (k + 1 + 1) (p + product (get_or ss k [])) (drop (k + 1) ss))
+pub codes_more : {E : Type 0} (a : Algebra E) (bs : List ℕ) (ss : List (List ℕ)) (k p : ℕ) → k < length ss → codes_from a bs (k + 1) p (drop k ss) ≡ and_then (codes_of a bs (offset bs (k + 1)) p (product (get_or ss k []))) (λ _. codes_from a bs (k + 1 + 1) (p + product (get_or ss k [])) (drop (k + 1) ss))
 codes_more a bs ss k p h = at_drop_more (codes_from a bs (k + 1) p) ss k [] h
 
 pub cells_more : {E : Type 0} (a : Algebra E) (bs : List ℕ) (at p m n : ℕ) → n < m → codes_of a bs (at + 8 * n) (p + n) (m - n) ≡ cond (coded a bs (at + 8 * n)) (codes_of a bs (at + 8 * (n + 1)) (p + (n + 1)) (m - (n + 1))) (refused 8 (p + n))

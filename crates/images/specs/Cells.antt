@@ -7,7 +7,7 @@ use Rattle.std.proofs.lemmas.Bool.{and_parts, both_ways, cases_order, cases_eq}
 use Rattle.elements.specs.Algebra.{Algebra, Laws, is_zero}
 use Rattle.shapes.specs.declared.table.Table.{Table}
 use Rattle.indices.specs.Places.{within, product, column, pick, has}
-use Rattle.refusals.specs.Refusals.{Answer, done, refused, then}
+use Rattle.refusals.specs.Refusals.{Answer, done, refused, and_then}
 use Rattle.shapes.specs.Shapes.{shapes_of}
 use Rattle.shapes.proofs.Columns.{column_lt, column_same}
 use Rattle.shapes.proofs.Tables.{counted_parts}
@@ -34,18 +34,18 @@ imaged_lawful a t bs =
     }
 
 module _ {E : Type 0} (a : Algebra E) (ss : List (List ℕ)) (bs : List ℕ) (v : ℕ) (i : List ℕ) where
-  pub image_read : read_answer (imaged a ss bs) v i ≡ then (spot_answer ss bs v i) (λ k. done (unwrap_or (a.decode (number_at k 8 bs)) a.zero))
+  pub image_read : read_answer (imaged a ss bs) v i ≡ and_then (spot_answer ss bs v i) (λ k. done (unwrap_or (a.decode (number_at k 8 bs)) a.zero))
   image_read = by (has ss v) (within (pick ss v) i)
     where
-      by : (h w : Bool) → cond h (cond w (done (unwrap_or (a.decode (number_at (spot bs ss v i) 8 bs)) a.zero)) (refused 2 0)) (refused 1 0) ≡ then (cond h (cond w (done (spot bs ss v i)) (refused 2 0)) (refused 1 0)) (λ k. done (unwrap_or (a.decode (number_at k 8 bs)) a.zero))
+      by : (h w : Bool) → cond h (cond w (done (unwrap_or (a.decode (number_at (spot bs ss v i) 8 bs)) a.zero)) (refused 2 0)) (refused 1 0) ≡ and_then (cond h (cond w (done (spot bs ss v i)) (refused 2 0)) (refused 1 0)) (λ k. done (unwrap_or (a.decode (number_at k 8 bs)) a.zero))
       by true true = refl
       by true false = refl
       by false w = refl
 
-  pub image_write : (x : E) → write_answer a (imaged a ss bs) v i x ≡ then (spot_answer ss bs v i) (λ _. done (tt {0}))
+  pub image_write : (x : E) → write_answer a (imaged a ss bs) v i x ≡ and_then (spot_answer ss bs v i) (λ _. done (tt {0}))
   image_write x = by (has ss v) (within (pick ss v) i) (is_zero a x)
     where
-      by : (h w n : Bool) → cond h (cond w (cond (w || n) (done (tt {0})) (refused 3 0)) (refused 2 0)) (refused 1 0) ≡ then (cond h (cond w (done (spot bs ss v i)) (refused 2 0)) (refused 1 0)) (λ _. done (tt {0}))
+      by : (h w n : Bool) → cond h (cond w (cond (w || n) (done (tt {0})) (refused 3 0)) (refused 2 0)) (refused 1 0) ≡ and_then (cond h (cond w (done (spot bs ss v i)) (refused 2 0)) (refused 1 0)) (λ _. done (tt {0}))
       by true true n = refl
       by true false n = refl
       by false w n = refl

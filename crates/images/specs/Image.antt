@@ -7,7 +7,7 @@ use Rattle.std.specs.Option.{unwrap_or}
 use Rattle.elements.specs.Algebra.{Algebra}
 use Rattle.shapes.specs.declared.declaration.Declaration.{Declaration}
 use Rattle.indices.specs.Places.{within, pick, has}
-use Rattle.refusals.specs.Refusals.{Answer, done, refused, then}
+use Rattle.refusals.specs.Refusals.{Answer, done, refused, and_then}
 use Rattle.shapes.specs.Shapes.{declared}
 use Rattle.stores.specs.Meaning.{Meaning}
 use Rattle.images.specs.Bytes.{number_at}
@@ -18,9 +18,9 @@ imaged a ss bs = record { shapes = ss; reach = ss; at = λ v i. unwrap_or (a.dec
 
 abbrev pub image_answer : {E : Type 0} → Algebra E → List Declaration → List ℕ → Answer (List (List ℕ))
 image_answer a ds bs =
-    then (declared ds) (λ ss.
+    and_then (declared ds) (λ ss.
     cond (headed a.number (length ss) bs)
-    (then (pairs bs ss) (λ _. then (codes a bs ss) (λ _. done ss)))
+    (and_then (pairs bs ss) (λ _. and_then (codes a bs ss) (λ _. done ss)))
     (refused 6 0))
 
 abbrev pub spot_answer : List (List ℕ) → List ℕ → ℕ → List ℕ → Answer ℕ

@@ -8,7 +8,7 @@
 use Rattle.std.specs.Prelude.{◌≡◌, ℕ, zero, suc, ◌+◌, ◌-◌, ◌*◌, ◌<◌, ◌≤◌, Bool, true, cond, ◌&&◌, List, [], ◌∷◌, ◌++◌, length, take, is_some, ◌==◌, nat_le}
 use Rattle.elements.specs.Algebra.{Algebra}
 use Rattle.indices.specs.Places.{product, column, pick, has}
-use Rattle.refusals.specs.Refusals.{Answer, done, refused, then}
+use Rattle.refusals.specs.Refusals.{Answer, done, refused, and_then}
 use Rattle.indices.specs.Dimensions.{same}
 use Rattle.images.specs.Bytes.{number_at}
 
@@ -46,7 +46,7 @@ codes_of a bs at p (suc n) = cond (coded a bs at) (codes_of a bs (at + 8) (p + 1
 
 abbrev pub codes_from : {E : Type 0} → Algebra E → List ℕ → ℕ → ℕ → List (List ℕ) → Answer Unit
 codes_from a bs v p [] = done tt
-codes_from a bs v p (s ∷ ss) = then (codes_of a bs (offset bs v) p (product s)) (λ _. codes_from a bs (v + 1) (p + product s) ss)
+codes_from a bs v p (s ∷ ss) = and_then (codes_of a bs (offset bs v) p (product s)) (λ _. codes_from a bs (v + 1) (p + product s) ss)
 
 abbrev pub codes : {E : Type 0} → Algebra E → List ℕ → List (List ℕ) → Answer Unit
 codes a bs ss = codes_from a bs 1 1 ss

@@ -1,11 +1,11 @@
 // Numbers in a byte buffer, big-endian.
 ghost use Rattle.std.specs.Prelude.{◌≡◌, ◌+◌, ◌^◌, ◌<◌, ◌≤◌, length};
-ghost use Rattle.images.specs.Bytes.{number as number_of_lem, number_at, bytes, patched};
+ghost use Rattle.images.specs.Bytes.{number as number_of, number_at, bytes, patched};
 
 // The number that these bytes stand for.
 fn number(bytes: &[u8]) -> u64
     requires { length bytes.now ≤ 8 }
-    ensures value { result ≡ number_of_lem bytes.now }
+    ensures value { result ≡ number_of bytes.now }
     ensures bound { result < 256 ^ length bytes.now }
 {
     let mut n: u64 = 0;

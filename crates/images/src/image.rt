@@ -5,7 +5,7 @@ ghost use Rattle.shapes.specs.Shapes.{shapes_of};
 ghost use Rattle.stores.specs.Meaning.{read_answer, write_answer, Written};
 ghost use Rattle.images.specs.Bytes.{bytes as bytes_of, patched};
 ghost use Rattle.images.specs.Image.{imaged, image_answer, spot_answer};
-ghost use Rattle.images.specs.Layout.{Laid, spot as spot_of_lem};
+ghost use Rattle.images.specs.Layout.{Laid, spot as spot_of};
 ghost use Rattle.images.specs.Cells.{imaged_lawful};
 
 use super::buffer::{number32, number64, patch};
@@ -122,7 +122,7 @@ impl<K: Kind> Store for Image<K> {
         ensures same { is_ok result ≡ false → self.new ≡ self.old }
         ensures written { Written (is_ok result) (imaged K.Kind.algebra (shapes_of self.old.table) self.old.bytes.items) v index.now x (imaged K.Kind.algebra (shapes_of self.new.table) self.new.bytes.items) }
         ensures table { self.new.table ≡ self.old.table }
-        ensures buffer { self.new.bytes.items ≡ (if is_ok result then patched (spot_of_lem self.old.bytes.items (shapes_of self.old.table) v index.now) (bytes_of 8 (K.Kind.algebra.code x)) self.old.bytes.items else self.old.bytes.items) }
+        ensures buffer { self.new.bytes.items ≡ (if is_ok result then patched (spot_of self.old.bytes.items (shapes_of self.old.table) v index.now) (bytes_of 8 (K.Kind.algebra.code x)) self.old.bytes.items else self.old.bytes.items) }
     {
         match self.spot(v, index) {
             Ok(spot) => {

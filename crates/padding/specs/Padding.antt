@@ -6,7 +6,7 @@
 use Rattle.std.specs.Prelude.{◌≡◌, ℕ, ◌≤◌, true, false, cond, ◌&&◌, List, Some, None, Option, ◌≢◌, nat_le}
 use Rattle.shapes.specs.declared.declaration.Declaration.{Declaration}
 use Rattle.indices.specs.Places.{within, pick}
-use Rattle.refusals.specs.Refusals.{Answer, done, refused, then}
+use Rattle.refusals.specs.Refusals.{Answer, done, refused, and_then}
 use Rattle.shapes.specs.Shapes.{declared}
 use Rattle.stores.specs.Matching.{difference}
 use Rattle.stores.specs.Meaning.{Meaning, in_shape, in_reach}
@@ -34,7 +34,7 @@ matched n x (Some k) = refused n k
 
 abbrev pub padding_answer : List Declaration → ℕ → List (List ℕ) → Answer (List (List ℕ))
 padding_answer ds m below =
-    then (declared ds) (λ ss.
+    and_then (declared ds) (λ ss.
     cond (nat_le 1 m && nat_le m 16)
-    (then (rounding m ss) (λ rs. matched 11 ss (difference rs below)))
+    (and_then (rounding m ss) (λ rs. matched 11 ss (difference rs below)))
     (refused 9 0))

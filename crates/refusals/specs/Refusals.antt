@@ -1,7 +1,7 @@
 -- Answers of calls, in the numbers and positions that the manual has.
---   number_of, position_of   each refusal's number and position
+--   number_of, position_of each refusal's number and position
 --   Answer                 a call is done with a value, or refused with a number and a position
---   then                   a question that is asked after another was answered
+--   and_then               a question that is asked after another was answered
 --   answer, answered       the answer that a result is, at what is seen of its value; at the value itself
 --   opened, held           of a call that takes memory: its answer, and the memory, kept or given back
 use Rattle.std.specs.Prelude.{◌≡◌, ℕ, Ok, Err, Result}
@@ -71,9 +71,9 @@ pub data Answer (X : Type 0) : Type 0 where
   done : X → Answer X
   refused : ℕ → ℕ → Answer X
 
-abbrev pub then : {X Y : Type 0} → Answer X → (X → Answer Y) → Answer Y
-then (done x) f = f x
-then (refused n p) f = refused n p
+abbrev pub and_then : {X Y : Type 0} → Answer X → (X → Answer Y) → Answer Y
+and_then (done x) f = f x
+and_then (refused n p) f = refused n p
 
 abbrev pub answer : {X Y : Type 0} → (X → Y) → Result X Refusal → Answer Y
 answer f (Ok x) = done (f x)

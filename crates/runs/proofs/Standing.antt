@@ -10,7 +10,7 @@ use Rattle.evaluation.proofs.Spans.{shape_reached}
 use Rattle.evaluation.proofs.Targets.{target_typed, target_reach}
 use Rattle.indices.specs.Dimensions.{same}
 use Rattle.indices.specs.Places.{pick, has, within}
-use Rattle.refusals.specs.Refusals.{Answer, done, refused, then}
+use Rattle.refusals.specs.Refusals.{Answer, done, refused, and_then}
 use Rattle.indices.proofs.Equal.{same_equal}
 use Rattle.sheets.specs.Language.{Expr, of_variable}
 use Rattle.sheets.specs.Sheets.{Contents}
@@ -100,7 +100,7 @@ module _ {E : Type 0} (a : Algebra E) (laws : Laws a) (c : Contents) (judged : J
       reply_same : (k : Call E) → reply c (state_of p) k ≡ reply c plain k
       reply_same (fetch v i) = by (in_sheet c v i) refl
         where
-          by : (b : Bool) → in_sheet c v i ≡ b → then (cond b (done (p.meaning.at v i)) (refused 20 0)) (λ x. done (element x)) ≡ then (cond b (done (at v i)) (refused 20 0)) (λ x. done (element x))
+          by : (b : Bool) → in_sheet c v i ≡ b → and_then (cond b (done (p.meaning.at v i)) (refused 20 0)) (λ x. done (element x)) ≡ and_then (cond b (done (at v i)) (refused 20 0)) (λ x. done (element x))
           by true e = ap (λ x. done (element x)) (sym (shows v i (sym (in_sheet_shape v i) ∙ e)))
           by false e = refl
       reply_same (put v i x) = refl

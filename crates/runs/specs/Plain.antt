@@ -14,7 +14,7 @@ use Rattle.evaluation.specs.Tray.{statement_of}
 use Rattle.evaluation.specs.Value.{value}
 use Rattle.indices.specs.Dimensions.{same}
 use Rattle.indices.specs.Places.{pick, has, within}
-use Rattle.refusals.specs.Refusals.{Answer, done, refused, then}
+use Rattle.refusals.specs.Refusals.{Answer, done, refused, and_then}
 use Rattle.sheets.specs.Sheets.{Contents}
 use Rattle.sheets.specs.Terms.{expression_of}
 
@@ -68,9 +68,9 @@ abbrev pub rewound : {E : Type 0} → State E → State E
 rewound s = record { at = s.at; next = 1 }
 
 abbrev pub reply : {E : Type 0} → Contents → State E → Call E → Reply E
-reply c s (fetch v i) = then (fetch_answer c s v i) (λ x. done (element x))
-reply c s (put v i x) = then (put_answer c v i) (λ _. done nothing)
-reply c s (step size) = then (step_answer c s.next size) (λ n. done (statement n))
+reply c s (fetch v i) = and_then (fetch_answer c s v i) (λ x. done (element x))
+reply c s (put v i x) = and_then (put_answer c v i) (λ _. done nothing)
+reply c s (step size) = and_then (step_answer c s.next size) (λ n. done (statement n))
 reply c s rewind = done nothing
 
 abbrev pub after : {E : Type 0} → Algebra E → Contents → List (List ℕ) → State E → Call E → State E

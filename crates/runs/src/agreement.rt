@@ -1,6 +1,6 @@
 // One list of calls, passed to two runs of one sheet over two stores.
 ghost use Rattle.std.specs.Prelude.{◌≡◌, ◌<◌, length, IfOk, MatchResult, slice_set};
-ghost use Rattle.refusals.specs.Refusals.{opened, then};
+ghost use Rattle.refusals.specs.Refusals.{opened, and_then};
 ghost use Rattle.sheets.specs.Sheets.{contents};
 ghost use Rattle.runs.specs.Agreement.{Moves, Chain, Agreement};
 ghost use Rattle.runs.specs.Lists.{call_of, reply_of, calls_of, lefts_of, rights_of};
@@ -93,7 +93,7 @@ pub fn agree<K: Kind, S: Store<Item = K>, T: Store<Item = K>>(
 ) -> Result<Pair<S, T>, Declined<Pair<S, T>>>
     requires left { S.Store.keeps left }
     requires right { T.Store.keeps right }
-    ensures answer { opened (λ _. tt) result ≡ then (open_answer (contents sheet.now) (S.Store.meaning left).shapes) (λ _. open_answer (contents sheet.now) (T.Store.meaning right).shapes) }
+    ensures answer { opened (λ _. tt) result ≡ and_then (open_answer (contents sheet.now) (S.Store.meaning left).shapes) (λ _. open_answer (contents sheet.now) (T.Store.meaning right).shapes) }
     ensures kept { MatchResult result (λ p. (S.Store.keeps p.left) × (T.Store.keeps p.right) × (calls_of (length tray.old) entries.new ≡ calls_of (length tray.old) entries.old)) (λ d. (d.value.left ≡ left) × (d.value.right ≡ right) × (entries.new ≡ entries.old)) }
     ensures agreement { IfOk result (λ p. Agreement K.Kind.algebra (contents sheet.now) (S.Store.meaning left) (T.Store.meaning right) (calls_of (length tray.old) entries.old) (lefts_of entries.new) (rights_of entries.new) (S.Store.meaning p.left) (T.Store.meaning p.right)) }
 {

@@ -3,7 +3,7 @@ use Rattle.std.proofs.Common.{◌≡◌, ℕ, zero, suc, ◌+◌, ◌<◌, ◌�
 use Rattle.std.proofs.lemmas.List.{length_push, length-take-le}
 use Rattle.std.proofs.lemmas.Bool.{and_parts, and_from, leb-true, ltb-true, le-leb}
 use Rattle.indices.specs.Places.{pick}
-use Rattle.refusals.specs.Refusals.{done, then}
+use Rattle.refusals.specs.Refusals.{done, and_then}
 use Rattle.sheets.specs.declared.checked.CheckedSheet.{CheckedSheet}
 use Rattle.sheets.specs.declared.form.Form.{Form}
 use Rattle.sheets.specs.declared.form.Form.TheVariants.{Variable, Outer, Sum, Difference, Product, Quotient, Transposition, Contraction}
@@ -139,7 +139,7 @@ judged s =
     let a = length-take-le s.node_count s.nodes (omega (arith, s.nodes_whole, s.few_nodes)) in
     let b = length-take-le s.statement_count s.statements (omega (arith, s.statements_whole, s.few_statements)) in
     let t = found_done c.infos (tables c.shapes c.nodes c.statements) s.sound in
-    let p = then_done (infos_from c.shapes 1 [] c.nodes) (λ is. then (statements_from c.shapes is 1 c.statements) (λ _. done is)) c.infos t in
+    let p = then_done (infos_from c.shapes 1 [] c.nodes) (λ is. and_then (statements_from c.shapes is 1 c.statements) (λ _. done is)) c.infos t in
     let q = then_done (statements_from c.shapes p.0 1 c.statements) (λ _. done p.0) c.infos p.2 in
     let w = q.2 in
     let e : p.0 ≡ c.infos = cc in

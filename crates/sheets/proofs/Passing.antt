@@ -5,7 +5,7 @@ use Rattle.std.proofs.lemmas.Bool.{and_parts, and_from, leb-true, le-leb, cond-t
 use Rattle.shapes.specs.declared.declaration.Declaration.{Declaration}
 use Rattle.indices.specs.Dimensions.{same}
 use Rattle.indices.specs.Places.{pick, has}
-use Rattle.refusals.specs.Refusals.{Answer, done, refused, then}
+use Rattle.refusals.specs.Refusals.{Answer, done, refused, and_then}
 use Rattle.shapes.specs.Shapes.{declared}
 use Rattle.indices.proofs.Equal.{same_equal, same_self}
 use Rattle.sheets.specs.declared.node.Node.{Node}
@@ -17,7 +17,7 @@ use Rattle.sheets.specs.Language.{Expr, Typed, depth, nesting, expr_at, exprs_fr
 use Rattle.sheets.proofs.Typing.{same_type}
 use Rattle.sheets.proofs.Matching.{Related, sound, complete, related_push, at_left, at_end}
 
-pub then_done : {X Y : Type 0} (a : Answer X) (f : X → Answer Y) (y : Y) → then a f ≡ done y → (x : X) × (a ≡ done x) × (f x ≡ done y)
+pub then_done : {X Y : Type 0} (a : Answer X) (f : X → Answer Y) (y : Y) → and_then a f ≡ done y → (x : X) × (a ≡ done x) × (f x ≡ done y)
 then_done (done x) f y e = (x, refl, e)
 then_done (refused n p) f y e = absurd (let z : ◌≡◌ {A = ℕ} 0 1 = cc in omega arith)
 
@@ -85,7 +85,7 @@ module _ (ss : List (List ℕ)) where
       let i = c.0 in
       let r = sound ss es is all k n nd (form_of nd.kind) i c.1 in
       let s = nodes_complete nds (k + 1) (es ++ x ∷ []) (is ++ i ∷ []) (related_push ss es is x i all r.0 r.1) (omega (arith, length_push is i)) (λ j g l. f j g (omega (arith, length_push is i))) in
-      (s.0, ap (λ v. then v (λ y. infos_from ss (k + 1) (is ++ y ∷ []) nds)) c.1 ∙ s.1)
+      (s.0, ap (λ v. and_then v (λ y. infos_from ss (k + 1) (is ++ y ∷ []) nds)) c.1 ∙ s.1)
 
   -- tables that pass, and their statements
   module _ (ns : List Node) (is : List Info) (all : Related ss (exprs_from 1 [] ns) is) where
@@ -152,7 +152,7 @@ passes_means ds ns sts is e =
     let ss = p.0 in
     let q = when_done (leb (length ns) 256 && leb (length sts) 64) (tables ss ns sts) 12 0 is p.2 in
     let c = and_parts (leb (length ns) 256) (leb (length sts) 64) q.0 in
-    let r = then_done (infos_from ss 1 [] ns) (λ js. then (statements_from ss js 1 sts) (λ _. done js)) is q.1 in
+    let r = then_done (infos_from ss 1 [] ns) (λ js. and_then (statements_from ss js 1 sts) (λ _. done js)) is q.1 in
     let js = r.0 in
     let s = then_done (statements_from ss js 1 sts) (λ _. done js) is r.2 in
     let all = nodes_sound ss ns 1 [] [] js (none_yet ss) refl r.1 in
@@ -176,8 +176,8 @@ meaning_passes ds ns sts m =
     let s = statements_complete ss ns js all sts 1 m.statements in
     let c = and_from (leb (length ns) 256) (leb (length sts) 64) (le-leb (length ns) 256 m.few_nodes) (le-leb (length sts) 64 m.few_statements) in (
       js,
-      ap (λ a. then a (λ ts. cond (leb (length ns) 256 && leb (length sts) 64) (tables ts ns sts) (refused 12 0))) m.declares
+      ap (λ a. and_then a (λ ts. cond (leb (length ns) 256 && leb (length sts) 64) (tables ts ns sts) (refused 12 0))) m.declares
           ∙ cond-true (leb (length ns) 256 && leb (length sts) 64) (tables ss ns sts) (refused 12 0) c
-          ∙ ap (λ a. then a (λ is. then (statements_from ss is 1 sts) (λ _. done is))) r.1
-          ∙ ap (λ a. then a (λ _. done js)) s,
+          ∙ ap (λ a. and_then a (λ is. and_then (statements_from ss is 1 sts) (λ _. done is))) r.1
+          ∙ ap (λ a. and_then a (λ _. done js)) s,
     )

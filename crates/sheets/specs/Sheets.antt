@@ -5,7 +5,7 @@
 --   filled      what a lent sheet holds after
 use Rattle.std.specs.Prelude.{ℕ, List, map, take}
 use Rattle.shapes.specs.declared.declaration.Declaration.{Declaration}
-use Rattle.refusals.specs.Refusals.{Answer, done, refused, then}
+use Rattle.refusals.specs.Refusals.{Answer, done, refused, and_then}
 use Rattle.shapes.specs.Shapes.{declared, shapes_of}
 use Rattle.sheets.specs.declared.checked.CheckedSheet.{CheckedSheet}
 use Rattle.sheets.specs.declared.node.Node.{Node}
@@ -24,7 +24,7 @@ contents s =
     record { shapes = shapes_of s.table; nodes = take s.node_count s.nodes; statements = take s.statement_count s.statements; infos = map info_of (take s.node_count s.judged) }
 
 abbrev pub judged_sheet : List Declaration → List Node → List Statement → Answer Contents
-judged_sheet ds ns sts = then (verdict ds ns sts) (λ is. then (declared ds) (λ ss. done (record { shapes = ss; nodes = ns; statements = sts; infos = is })))
+judged_sheet ds ns sts = and_then (verdict ds ns sts) (λ is. and_then (declared ds) (λ ss. done (record { shapes = ss; nodes = ns; statements = sts; infos = is })))
 
 -- what a lent sheet holds after the verdict, given what it held before
 abbrev pub filled : Answer Contents → Contents → Contents

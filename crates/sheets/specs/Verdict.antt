@@ -8,7 +8,7 @@ use Rattle.std.specs.Prelude.{ℕ, ◌+◌, Bool, true, false, cond, ◌&&◌, L
 use Rattle.shapes.specs.declared.declaration.Declaration.{Declaration}
 use Rattle.indices.specs.Dimensions.{same}
 use Rattle.indices.specs.Places.{pick, has}
-use Rattle.refusals.specs.Refusals.{Answer, done, refused, then}
+use Rattle.refusals.specs.Refusals.{Answer, done, refused, and_then}
 use Rattle.shapes.specs.Shapes.{declared}
 use Rattle.sheets.specs.declared.node.Node.{Node}
 use Rattle.sheets.specs.declared.node.Statement.{Statement}
@@ -17,7 +17,7 @@ use Rattle.sheets.specs.Rules.{Info, info_at, node_answer}
 -- k is the number of the first node of the list, and is what is known of those before it
 abbrev pub infos_from : List (List ℕ) → ℕ → List Info → List Node → Answer (List Info)
 infos_from ss k is [] = done is
-infos_from ss k is (nd ∷ nds) = then (node_answer ss k is nd) (λ i. infos_from ss (k + 1) (is ++ i ∷ []) nds)
+infos_from ss k is (nd ∷ nds) = and_then (node_answer ss k is nd) (λ i. infos_from ss (k + 1) (is ++ i ∷ []) nds)
 
 -- s is the number of the first statement of the list
 abbrev pub statements_from : List (List ℕ) → List Info → ℕ → List Statement → Answer Unit
@@ -28,11 +28,11 @@ statements_from ss is s (st ∷ sts) =
     (refused 17 s)
 
 abbrev pub tables : List (List ℕ) → List Node → List Statement → Answer (List Info)
-tables ss ns sts = then (infos_from ss 1 [] ns) (λ is. then (statements_from ss is 1 sts) (λ _. done is))
+tables ss ns sts = and_then (infos_from ss 1 [] ns) (λ is. and_then (statements_from ss is 1 sts) (λ _. done is))
 
 abbrev pub verdict : List Declaration → List Node → List Statement → Answer (List Info)
 verdict ds ns sts =
-    then (declared ds) (λ ss.
+    and_then (declared ds) (λ ss.
     cond (nat_le (length ns) 256 && nat_le (length sts) 64) (tables ss ns sts) (refused 12 0))
 
 -- what is known of the nodes is that; and it is what the tables answer

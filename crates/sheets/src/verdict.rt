@@ -1,6 +1,6 @@
 // The verdict on a sheet.
 ghost use Rattle.std.specs.Prelude.{◌≡◌, ◌≤◌, false, [], ◌∷◌, map, length, take, is_ok};
-ghost use Rattle.refusals.specs.Refusals.{answer, answered, done, then};
+ghost use Rattle.refusals.specs.Refusals.{answer, answered, done, and_then};
 ghost use Rattle.shapes.specs.Shapes.{shapes_of};
 ghost use Rattle.sheets.specs.Language.{Means};
 ghost use Rattle.sheets.specs.Rules.{info_of};
@@ -23,7 +23,7 @@ pub fn judge(
     statements: &[Statement],
     sheet: &mut CheckedSheet,
 ) -> Result<(), Refusal>
-    ensures answers { answered result ≡ then (judged_sheet declared.now nodes.now statements.now) (λ _. done tt) }
+    ensures answers { answered result ≡ and_then (judged_sheet declared.now nodes.now statements.now) (λ _. done tt) }
     ensures fills { contents sheet.new ≡ filled (judged_sheet declared.now nodes.now statements.now) (contents sheet.old) }
     ensures same { is_ok result ≡ false → sheet.new ≡ sheet.old }
     ensures means { Means declared.now nodes.now statements.now (is_ok result) }

@@ -6,7 +6,7 @@ use Rattle.std.proofs.lemmas.List.{get_or-set_same, get_or-set_other}
 use Rattle.elements.specs.Algebra.{Algebra, is_zero}
 use Rattle.shapes.specs.declared.table.Table.{Table}
 use Rattle.indices.specs.Places.{within, place, pick, has, total, each, cell}
-use Rattle.refusals.specs.Refusals.{Answer, done, refused, then}
+use Rattle.refusals.specs.Refusals.{Answer, done, refused, and_then}
 use Rattle.shapes.specs.Shapes.{shapes_of, place_answer}
 use Rattle.shapes.proofs.Extents.{proper_parts, each_parts}
 use Rattle.shapes.proofs.Tables.{shapes_length, proper_pick, cell_lt, cell_other}
@@ -31,19 +31,19 @@ flat_lawful z t xs = record {
 
 module _ {E : Type 0} (a : Algebra E) (ss : List (List ℕ)) (xs : List E) (v : ℕ) (i : List ℕ) where
   -- a read through the number of the place
-  pub flat_read : read_answer (flat a.zero ss xs) v i ≡ then (place_answer ss v i) (λ k. done (slice_index_or xs k a.zero))
+  pub flat_read : read_answer (flat a.zero ss xs) v i ≡ and_then (place_answer ss v i) (λ k. done (slice_index_or xs k a.zero))
   flat_read = by (has ss v) (within (pick ss v) i)
     where
-      by : (h w : Bool) → cond h (cond w (done (slice_index_or xs (cell ss v i) a.zero)) (refused 2 0)) (refused 1 0) ≡ then (cond h (cond w (done (cell ss v i)) (refused 2 0)) (refused 1 0)) (λ k. done (slice_index_or xs k a.zero))
+      by : (h w : Bool) → cond h (cond w (done (slice_index_or xs (cell ss v i) a.zero)) (refused 2 0)) (refused 1 0) ≡ and_then (cond h (cond w (done (cell ss v i)) (refused 2 0)) (refused 1 0)) (λ k. done (slice_index_or xs k a.zero))
       by true true = refl
       by true false = refl
       by false w = refl
 
   -- no place of a flat store is spare, so a write asks only for the place
-  pub flat_write : (x : E) → write_answer a (flat a.zero ss xs) v i x ≡ then (place_answer ss v i) (λ _. done (tt {0}))
+  pub flat_write : (x : E) → write_answer a (flat a.zero ss xs) v i x ≡ and_then (place_answer ss v i) (λ _. done (tt {0}))
   flat_write x = by (has ss v) (within (pick ss v) i) (is_zero a x)
     where
-      by : (h w n : Bool) → cond h (cond w (cond (w || n) (done (tt {0})) (refused 3 0)) (refused 2 0)) (refused 1 0) ≡ then (cond h (cond w (done (cell ss v i)) (refused 2 0)) (refused 1 0)) (λ _. done (tt {0}))
+      by : (h w n : Bool) → cond h (cond w (cond (w || n) (done (tt {0})) (refused 3 0)) (refused 2 0)) (refused 1 0) ≡ and_then (cond h (cond w (done (cell ss v i)) (refused 2 0)) (refused 1 0)) (λ _. done (tt {0}))
       by true true n = refl
       by true false n = refl
       by false w n = refl

@@ -1,7 +1,7 @@
 // Cells: a store that keeps its elements in a vector, variable after variable, the last coordinate running fastest.
 ghost use Rattle.std.specs.Prelude.{◌≡◌, ◌≤◌, false, length, is_ok, if◌then◌else◌, vec_len, slice_index_or, slice_set};
 ghost use Rattle.indices.specs.Places.{total, cell};
-ghost use Rattle.refusals.specs.Refusals.{answered, done, then, opened, held};
+ghost use Rattle.refusals.specs.Refusals.{answered, done, and_then, opened, held};
 ghost use Rattle.shapes.specs.Shapes.{shapes_of, place_answer};
 ghost use Rattle.stores.specs.Cells.{flat, cells_answer};
 ghost use Rattle.stores.specs.Meaning.{read_answer, write_answer, Written};
@@ -80,7 +80,7 @@ impl<K: Kind> Store for Cells<K> {
 
     fn read(&self, v: usize, index: &[u16]) -> Result<K, Refusal>
         ensures answer { answered result ≡ read_answer (flat K.Kind.algebra.zero (shapes_of self.now.table) self.now.elements.items) v index.now }
-        ensures element { answered result ≡ then (place_answer (shapes_of self.now.table) v index.now) (λ k. done (slice_index_or self.now.elements.items k K.Kind.algebra.zero)) }
+        ensures element { answered result ≡ and_then (place_answer (shapes_of self.now.table) v index.now) (λ k. done (slice_index_or self.now.elements.items k K.Kind.algebra.zero)) }
     {
         let k = self.table.place(v, index)?;
         Ok(self.elements[k])

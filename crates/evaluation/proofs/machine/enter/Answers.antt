@@ -84,8 +84,8 @@ returns-in-Turned g c =
     let u = subst (UnfoldsTo (contents c.args.sheet.now) c.args.node) c.in-Turned.is c.requires.unfolds in
     down_turned t w fs c.args.node c.args.at c.requires.sound c.in-Turned.a c.in-Turned.m c.in-Turned.n u c.exchange.result c.exchange.ensures
 
-pub rounded-of-limit-requires : goal.rounded-of-limit-requires
-rounded-of-limit-requires g c =
+pub rounded_of-limit-requires : goal.rounded_of-limit-requires
+rounded_of-limit-requires g c =
     let t = setting g.K.Kind.algebra (g.S.Store.meaning c.args.s.now) (contents c.args.sheet.now) in
     let w = works g.K.Kind.algebra (g.S.Store.meaning c.args.s.now) c.args.sheet.now g.met.K.Kind.lawful (g.met.S.Store.lawful c.args.s.now c.requires.kept) c.requires.fits in
     let fs = stack_of c.args.stack.now in
@@ -122,4 +122,4 @@ returns-in-Contracted g c =
     let fs = stack_of c.args.stack.now in
     let u = subst (UnfoldsTo (contents c.args.sheet.now) c.args.node) c.in-Contracted.is c.requires.unfolds in
     down_sum t w fs c.args.node c.args.at c.requires.sound c.in-Contracted.a c.in-Contracted.m c.in-Contracted.n u _ _ c.extend-first.result _
-    c.rounded-of-limit.ensures c.zero-code-sum.ensures c.extend-first.ensures c.push-in-Contracted.ensures
+    c.rounded_of-limit.ensures c.zero_code-sum.ensures c.extend-first.ensures c.push-in-Contracted.ensures

@@ -14,4 +14,4 @@ loop-next-init g c =
 pub returns-in-Done : goal.returns-in-Done
 returns-in-Done g c =
     let t = setting g.K.Kind.algebra (g.S.Store.meaning c.args.s.now) (contents c.args.sheet.now) in
-    c.value-of.ensures ∙ c.in-Done.ensures ∙ c.loop-next.invariant.1 ∙ whole_down t (stack_of c.empty-stack.result) c.empty-stack.ensures c.args.node c.args.at
+    c.value_of.ensures ∙ c.in-Done.ensures ∙ c.loop-next.invariant.1 ∙ whole_down t (stack_of c.empty-stack.result) c.empty-stack.ensures c.args.node c.args.at

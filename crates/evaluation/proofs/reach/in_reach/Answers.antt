@@ -18,8 +18,8 @@ returns-then-index-rank g c =
     let n = ranked b (g.met.S.Store.lawful c.args.s.now c.requires.kept) sheet (judged c.args.sheet.now) c.requires.fits c.args.k t in
     sym (and_right (node_there sheet c.args.k) (within es cs) (within_uneven es cs (λ e. c.if-index-rank.true (sym e ∙ sym n ∙ sym c.rank.ensures))))
 
-pub rounded-of-limit-requires : goal.rounded-of-limit-requires
-rounded-of-limit-requires g c =
+pub rounded_of-limit-requires : goal.rounded_of-limit-requires
+rounded_of-limit-requires g c =
     let b = g.S.Store.meaning c.args.s.now in let sheet = contents c.args.sheet.now in
     let t = c.in-Some.ensures.unfolds.0 in
     let n = ranked b (g.met.S.Store.lawful c.args.s.now c.requires.kept) sheet (judged c.args.sheet.now) c.requires.fits c.args.k t in
@@ -39,7 +39,7 @@ returns-then-index-d-lt1 g c =
     let l : d < length es = omega (arith, n, c.rank.ensures, c.if-index-rank.false, c.loop-d-test.true) in
     sym (and_right (node_there sheet c.args.k) (within es cs) (sym c.loop-d.invariant ∙ elim c.then-index-d-lt1.branch [
       | then-index-d-lt1-via-then-index-d-lt1 w ↦ below_first es cs d l c.loop-d-test.true w.if-index-d-lt1.true
-      | then-index-d-lt1-via-else-index-d-lt1+then-index-d w ↦ past_limit es cs d l c.loop-d-test.true (subst (λ x. x < get_or cs d 0) c.rounded-of-limit.ensures w.if-index-d.true)
+      | then-index-d-lt1-via-else-index-d-lt1+then-index-d w ↦ past_limit es cs d l c.loop-d-test.true (subst (λ x. x < get_or cs d 0) c.rounded_of-limit.ensures w.if-index-d.true)
     ]))
 
 pub loop-d-preserved : goal.loop-d-preserved
@@ -48,7 +48,7 @@ loop-d-preserved g c =
     let es = node_reach b sheet c.args.k in let cs = c.args.index.now in let d = c.loop-d.d in
     let n = ranked b (g.met.S.Store.lawful c.args.s.now c.requires.kept) sheet (judged c.args.sheet.now) c.requires.fits c.args.k c.in-Some.ensures.unfolds.0 in
     let l : d < length es = omega (arith, n, c.rank.ensures, c.if-index-rank.false, c.loop-d-test.true) in
-    up_to_limit es cs d l c.loop-d-test.true c.if-index-d-lt1.false (subst (λ x. get_or cs d 0 ≤ x) c.rounded-of-limit.ensures c.if-index-d.false) ∙ c.loop-d.invariant
+    up_to_limit es cs d l c.loop-d-test.true c.if-index-d-lt1.false (subst (λ x. get_or cs d 0 ≤ x) c.rounded_of-limit.ensures c.if-index-d.false) ∙ c.loop-d.invariant
 
 pub returns : goal.returns
 returns g c =

@@ -29,11 +29,11 @@ returns-in-Times c =
     second_traced s (judged c.args.sheet.now) c.args.k c.requires.there c.in-Pointwise.a c.in-Pointwise.b c.args.d
     (subst (UnfoldsTo s c.args.k) (c.in-Pointwise.is ∙ ap (λ op. Pointwise op c.in-Pointwise.a c.in-Pointwise.b) c.in-Times.is) c.requires.unfolds)
 
-pub returns-in-default : goal.returns-in-default
-returns-in-default c =
+pub returns-in_default : goal.returns-in_default
+returns-in_default c =
     let s = contents c.args.sheet.now in
     first_traced s (judged c.args.sheet.now) c.args.k c.requires.there c.in-Pointwise.operation c.in-Pointwise.a c.in-Pointwise.b c.args.d
-    c.in-default.not-Times (subst (UnfoldsTo s c.args.k) c.in-Pointwise.is c.requires.unfolds)
+    c.in_default.not-Times (subst (UnfoldsTo s c.args.k) c.in-Pointwise.is c.requires.unfolds)
 
 pub returns-then-d-m : goal.returns-then-d-m
 returns-then-d-m c =

@@ -11,13 +11,13 @@ use Rattle.evaluation.proofs.tray.reach_of.Goals as goal
 pub loop-d-init : goal.loop-d-init
 loop-d-init g c = (refl, refl, zeros_drop (0 ∷ 0 ∷ 0 ∷ 0 ∷ []) (length (pick (g.S.Store.meaning c.args.s.now).reach c.args.v)) refl)
 
-pub returns-in-default-rounded : goal.returns-in-default-rounded
-returns-in-default-rounded g c =
+pub returns-in_default-rounded : goal.returns-in_default-rounded
+returns-in_default-rounded g c =
     let b = g.S.Store.meaning c.args.s.now in let v = c.args.v in let rs = pick b.reach v in let d = c.loop-d.d in
     let law = g.met.S.Store.lawful c.args.s.now c.requires in
     let k = (done_since (has b.shapes v) c.in-Ok.rank (length (pick b.shapes v)) 1 0 c.in-Ok.ensures).0 in
     let n = rank_told b law v c.in-Ok.rank k c.in-Ok.ensures in
-    never_refused _ _ _ _ c.in-default-rounded.ensures (extent_next b.reach v d (reach_known b law v k) (omega (arith, n, c.loop-d-test.true)))
+    never_refused _ _ _ _ c.in_default-rounded.ensures (extent_next b.reach v d (reach_known b law v k) (omega (arith, n, c.loop-d-test.true)))
 
 pub bounds-extents-d : goal.bounds-extents-d
 bounds-extents-d g c =
@@ -35,8 +35,8 @@ offset-bounds-extents-d g c =
     let n = rank_told b law v c.in-Ok.rank k c.in-Ok.ensures in
     omega (arith, n, c.loop-d-test.true, reach_rank b law v k)
 
-pub overflow-cast-rank : goal.overflow-cast-rank
-overflow-cast-rank g c =
+pub overflow_cast-rank : goal.overflow_cast-rank
+overflow_cast-rank g c =
     let b = g.S.Store.meaning c.args.s.now in let v = c.args.v in let rs = pick b.reach v in let d = c.loop-d.d in
     let law = g.met.S.Store.lawful c.args.s.now c.requires in
     let k = (done_since (has b.shapes v) c.in-Ok.rank (length (pick b.shapes v)) 1 0 c.in-Ok.ensures).0 in
@@ -71,8 +71,8 @@ returns g c =
     (ap (λ t. take t out) q ∙ c.loop-d.invariant.1 ∙ take_all d rs (omega (arith, n, c.loop-d-test.false))) (ap (λ t. zeros (drop t out)) n ∙ c.loop-d.invariant.2)
     ∙ sym (cond-true (has b.shapes v) (Some rs) None k)
 
-pub returns-in-default : goal.returns-in-default
-returns-in-default g c =
+pub returns-in_default : goal.returns-in_default
+returns-in_default g c =
     let b = g.S.Store.meaning c.args.s.now in let v = c.args.v in
-    let k = (refused_since (has b.shapes v) (length (pick b.shapes v)) 1 0 _ _ c.in-default.ensures).0 in
+    let k = (refused_since (has b.shapes v) (length (pick b.shapes v)) 1 0 _ _ c.in_default.ensures).0 in
     sym (cond-false (has b.shapes v) (Some (pick b.reach v)) None k)

@@ -20,7 +20,7 @@ fill-requires g c =
     let p = some_since (leb 1 n && leb n (length d.statements)) c.in-Some.statement (statement_of d n) c.in-Some.ensures in
     let st : c.in-Some.statement ≡ statement_of d n = p.1 in let all = judged c.args.sheet.now in
     let v = c.in-Some.statement.variable in
-    let wide : extents_of c.in-Some-reach-of.reach ≡ target b d n = (some_since (has b.shapes v) (extents_of c.in-Some-reach-of.reach) (pick b.reach v) c.in-Some-reach-of.ensures).1 ∙ ap (λ t. pick b.reach t.variable) st in
+    let wide : extents_of c.in-Some-reach_of.reach ≡ target b d n = (some_since (has b.shapes v) (extents_of c.in-Some-reach_of.reach) (pick b.reach v) c.in-Some-reach_of.ensures).1 ∙ ap (λ t. pick b.reach t.variable) st in
     record {
       kept = c.requires;
       fits = fit;
@@ -40,7 +40,7 @@ returns g c =
     let p = some_since (leb 1 n && leb n (length d.statements)) c.in-Some.statement (statement_of d n) c.in-Some.ensures in
     let st : c.in-Some.statement ≡ statement_of d n = p.1 in let all = judged c.args.sheet.now in
     let v = c.in-Some.statement.variable in
-    let wide : extents_of c.in-Some-reach-of.reach ≡ target b d n = (some_since (has b.shapes v) (extents_of c.in-Some-reach-of.reach) (pick b.reach v) c.in-Some-reach-of.ensures).1 ∙ ap (λ t. pick b.reach t.variable) st in
+    let wide : extents_of c.in-Some-reach_of.reach ≡ target b d n = (some_since (has b.shapes v) (extents_of c.in-Some-reach_of.reach) (pick b.reach v) c.in-Some-reach_of.ensures).1 ∙ ap (λ t. pick b.reach t.variable) st in
     let z = product (target b d n) in let k = c.loop-k.k in
     let a = g.K.Kind.algebra in
     let e : c.size-size.result ≡ z = c.size-size.ensures ∙ ap product wide in
@@ -50,17 +50,17 @@ returns g c =
     let t = filled_all _ k z c.args.tray.now c.loop-k.tray (q ∙ e) c.loop-k.invariant in
     record {
       answer = ap Some e ∙ sym (both_pass (Some z) None (fits b d) (roomy b d n (length c.args.tray.now)) f o);
-      tray = t ∙ ap (λ u. counted (λ j. node_value a b d u.node (unplace (extents_of c.in-Some-reach-of.reach) j)) 0 z ++ drop z c.args.tray.now) st
+      tray = t ∙ ap (λ u. counted (λ j. node_value a b d u.node (unplace (extents_of c.in-Some-reach_of.reach) j)) 0 z ++ drop z c.args.tray.now) st
           ∙ ap (λ u. counted (λ j. node_value a b d (statement_of d n).node (unplace u j)) 0 z ++ drop z c.args.tray.now) wide
           ∙ sym (both_pass (worked a b d n ++ drop z c.args.tray.now) c.args.tray.now (fits b d) (roomy b d n (length c.args.tray.now)) f o);
     }
 
-pub returns-in-default-reach-of : goal.returns-in-default-reach-of
-returns-in-default-reach-of g c =
+pub returns-in_default-reach_of : goal.returns-in_default-reach_of
+returns-in_default-reach_of g c =
     let b = g.S.Store.meaning c.args.s.now in let d = contents c.args.sheet.now in let n = c.args.n in
     let law = g.met.S.Store.lawful c.args.s.now c.requires in let fit = c.if-not-fits.ensures.same refl in
     let p = some_since (leb 1 n && leb n (length d.statements)) c.in-Some.statement (statement_of d n) c.in-Some.ensures in
     let st : c.in-Some.statement ≡ statement_of d n = p.1 in let all = judged c.args.sheet.now in
     let v = c.in-Some.statement.variable in
     let k : has b.shapes v ≡ true = ap (λ t. has b.shapes t.variable) st ∙ target_known b law d all fit n p.0 in
-    absurd (both_ways (has b.shapes v) (none_since (has b.shapes v) (pick b.reach v) c.in-default-reach-of.ensures) k)
+    absurd (both_ways (has b.shapes v) (none_since (has b.shapes v) (pick b.reach v) c.in_default-reach_of.ensures) k)

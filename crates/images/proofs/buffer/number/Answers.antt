@@ -2,13 +2,13 @@ use Rattle.std.proofs.Common.{◌≡◌, ◌+◌, ◌^◌, ◌<◌, length, get_
 use Rattle.images.specs.Numbers.{digits_more, digits_all, digit_lt, eight_bytes}
 use Rattle.images.proofs.buffer.number.Goals as goal
 
-pub overflow-mul-n : goal.overflow-mul-n
-overflow-mul-n c =
+pub overflow_mul-n : goal.overflow_mul-n
+overflow_mul-n c =
     let i = c.loop-b.b-index in
     omega (arith, digit_lt c.loop-b.n 0 i c.loop-b.invariant.1 (omega arith), eight_bytes (i + 1) (omega (arith, c.requires, c.loop-b-test.true)))
 
-pub overflow-add-n : goal.overflow-add-n
-overflow-add-n c =
+pub overflow_add-n : goal.overflow_add-n
+overflow_add-n c =
     let i = c.loop-b.b-index in let b = get_or c.args.bytes.now i 0 in
     let k : b < 256 = search rules in
     omega (arith, digit_lt c.loop-b.n b i c.loop-b.invariant.1 k, eight_bytes (i + 1) (omega (arith, c.requires, c.loop-b-test.true)))

@@ -9,5 +9,5 @@ pub returns : goal.returns
 returns c =
     let at = c.args.at in let old = c.args.buffer.now in let new = bytes 8 c.args.code in
     let n : at + 8 - at ≡ 8 = omega arith in
-    let e : c.copy-from-slice.new.self ≡ new = c.copy-from-slice.ensures.after ∙ c.to-be-bytes.ensures ∙ bytes_eight c.args.code in
-    ap (λ k. put_mid at k old c.copy-from-slice.new.self) n ∙ ap (put_mid at 8 old) e ∙ sym (patched_mid at new old)
+    let e : c.copy_from_slice.new.self ≡ new = c.copy_from_slice.ensures.after ∙ c.to_be_bytes.ensures ∙ bytes_eight c.args.code in
+    ap (λ k. put_mid at k old c.copy_from_slice.new.self) n ∙ ap (put_mid at 8 old) e ∙ sym (patched_mid at new old)

@@ -17,9 +17,9 @@ loop-k-preserved g c =
     let own = extents_of c.args.own.now in let outer = c.args.wide.now in let wide = extents_of outer in
     let a = g.K.Kind.algebra in let v = c.args.v in let k = c.loop-k.k in
     let b = g.S.Store.meaning c.args.below.now in let d = g.S.Store.meaning c.loop-k.below in
-    let s : List ℕ = c.as-slice-place.result.now in
+    let s : List ℕ = c.as_slice-place.result.now in
     let lt : k < product wide = omega (arith, c.size-k-end.ensures, c.loop-k-test.true) in
-    let e : s ≡ unplace wide k = c.as-slice-place.ensures ∙ (some_since (ltb k (product wide)) _ _ c.in-Some.ensures).1 in
+    let e : s ≡ unplace wide k = c.as_slice-place.ensures ∙ (some_since (ltb k (product wide)) _ _ c.in-Some.ensures).1 in
     let law = g.met.S.Store.lawful c.loop-k.below c.loop-k.invariant.0 in
     let sol = each_solid wide (proper_parts wide outer.sound).extents in
     let P : g.row.S.Denot → Type 0 = λ t. (g.S.Store.keeps t) × Clearing a.zero own wide v (k + 1) b (g.S.Store.meaning t) in
@@ -38,11 +38,11 @@ loop-k-preserved g c =
           )
     ]
 
-pub returns-in-default : goal.returns-in-default
-returns-in-default g c =
+pub returns-in_default : goal.returns-in_default
+returns-in_default g c =
     let wide = extents_of c.args.wide.now in let k = c.loop-k.k in
     let lt : k < product wide = omega (arith, c.size-k-end.ensures, c.loop-k-test.true) in
-    absurd (both_ways (ltb k (product wide)) (none_since (ltb k (product wide)) _ c.in-default.ensures) (lt-ltb k (product wide) lt))
+    absurd (both_ways (ltb k (product wide)) (none_since (ltb k (product wide)) _ c.in_default.ensures) (lt-ltb k (product wide) lt))
 
 pub returns : goal.returns
 returns g c =

@@ -9,13 +9,13 @@ use Rattle.padding.proofs.clearing.clear_all.Goals as goal
 pub loop-k-init : goal.loop-k-init
 loop-k-init g c = (c.requires.kept, cleared_none g.K.Kind.algebra.zero (shapes_of c.args.own.now) (g.S.Store.meaning c.args.below.now))
 
-pub returns-in-default : goal.returns-in-default
-returns-in-default g c =
-    never_refused _ _ _ _ c.in-default.ensures (shape_next (shapes_of c.args.own.now) c.loop-k.k (omega (arith, c.len-k-end.ensures, c.requires.count, c.loop-k-test.true)))
+pub returns-in_default : goal.returns-in_default
+returns-in_default g c =
+    never_refused _ _ _ _ c.in_default.ensures (shape_next (shapes_of c.args.own.now) c.loop-k.k (omega (arith, c.len-k-end.ensures, c.requires.count, c.loop-k-test.true)))
 
-pub returns-in-default-shape : goal.returns-in-default-shape
-returns-in-default-shape g c =
-    never_refused _ _ _ _ c.in-default-shape.ensures (shape_next (shapes_of c.args.wide.now) c.loop-k.k (omega (arith, c.len-k-end.ensures, c.loop-k-test.true)))
+pub returns-in_default-shape : goal.returns-in_default-shape
+returns-in_default-shape g c =
+    never_refused _ _ _ _ c.in_default-shape.ensures (shape_next (shapes_of c.args.wide.now) c.loop-k.k (omega (arith, c.len-k-end.ensures, c.loop-k-test.true)))
 
 pub clear-requires : goal.clear-requires
 clear-requires g c =

@@ -5,8 +5,8 @@ use Rattle.padding.specs.Rounding.{rounded}
 use Rattle.padding.proofs.Cleared.{cleared_pads}
 use Rattle.padding.proofs.layer.open.Goals as goal
 
-pub clear-all-requires : goal.clear-all-requires
-clear-all-requires g c =
+pub clear_all-requires : goal.clear_all-requires
+clear_all-requires g c =
     let ss = shapes_of c.in-Ok.judged.0 in let w = c.in-Ok.ensures.wide in
     record { kept = c.requires; shapes = w.2; count = sym (ap length w.1 ∙ length-map ss (rounded c.args.m)) }
 

@@ -6,8 +6,8 @@ use Rattle.padding.specs.Rounding.{round, rounded}
 use Rattle.padding.specs.Rounded.{zeros_drop, shape_rounded}
 use Rattle.padding.proofs.rounding.round_shape.Goals as goal
 
-pub round-up-requires : goal.round-up-requires
-round-up-requires c =
+pub round_up-requires : goal.round_up-requires
+round_up-requires c =
     let s = c.args.shape.now in let d = c.loop-d.d in
     let e = each_at (extents_of s) d (proper_parts (extents_of s) s.sound).extents (omega (arith, ap length c.extents-es.ensures, c.loop-d-test.true)) in
     record { low = c.requires.low; high = c.requires.high; small = omega (arith, ap (λ t. get_or t d 0) c.extents-es.ensures, e.1) }
@@ -18,10 +18,10 @@ loop-d-init c = (refl, refl, zeros_drop (0 ∷ 0 ∷ 0 ∷ 0 ∷ []) (length c.e
 pub loop-d-preserved : goal.loop-d-preserved
 loop-d-preserved c =
     let s = c.args.shape.now in let es = c.extents-es.result.now in let m = c.args.m in
-    let d = c.loop-d.d in let out = c.loop-d.extents in let r = c.round-up.result in
+    let d = c.loop-d.d in let out = c.loop-d.extents in let r = c.round_up.result in
     let lt : d < length out = omega (arith, ap length c.extents-es.ensures, (proper_parts (extents_of s) s.sound).rank, c.loop-d-test.true, c.loop-d.invariant.0) in (
       simp length-set c.loop-d.invariant.0,
-      take_more_set out d r lt ∙ ap (λ t. t ++ r ∷ []) c.loop-d.invariant.1 ∙ ap (λ t. rounded m (take d es) ++ t ∷ []) c.round-up.ensures.value
+      take_more_set out d r lt ∙ ap (λ t. t ++ r ∷ []) c.loop-d.invariant.1 ∙ ap (λ t. rounded m (take d es) ++ t ∷ []) c.round_up.ensures.value
           ∙ sym (map_more (round m) es d 0 c.loop-d-test.true),
       ap zeros (drop-set-lt (length es) out d r c.loop-d-test.true) ∙ c.loop-d.invariant.2,
     )

@@ -16,16 +16,16 @@ pub returns-in-None : goal.returns-in-None
 returns-in-None c =
     let ss = shapes_of c.args.table.now in let m = c.args.m in let k = c.loop-k.k in
     let l : k < length ss = omega (arith, c.len-k-end.ensures, c.loop-k-test.true) in
-    let e = done_same _ _ _ c.in-ok-shape.ensures (shape_next ss k l) in
-    let p = ap (λ t. proper (rounded m t)) (sym e) ∙ none_since (proper (rounded m (extents_of c.in-ok-shape.shape))) _ c.in-None.ensures in
+    let e = done_same _ _ _ c.in_ok-shape.ensures (shape_next ss k l) in
+    let p = ap (λ t. proper (rounded m t)) (sym e) ∙ none_since (proper (rounded m (extents_of c.in_ok-shape.shape))) _ c.in-None.ensures in
     sym (sym c.loop-k.invariant.1 ∙ rounding_more m ss k l ∙ cond-false (proper (rounded m (get_or ss k []))) _ _ p)
 
 pub loop-k-preserved : goal.loop-k-preserved
 loop-k-preserved c =
     let ss = shapes_of c.args.table.now in let m = c.args.m in let k = c.loop-k.k in let w = c.loop-k.wide in
     let l : k < length ss = omega (arith, c.len-k-end.ensures, c.loop-k-test.true) in
-    let e = done_same _ _ _ c.in-ok-shape.ensures (shape_next ss k l) in
-    let v = some_since (proper (rounded m (extents_of c.in-ok-shape.shape))) _ _ c.in-Some.ensures in
+    let e = done_same _ _ _ c.in_ok-shape.ensures (shape_next ss k l) in
+    let v = some_since (proper (rounded m (extents_of c.in_ok-shape.shape))) _ _ c.in-Some.ensures in
     let p = ap (λ t. proper (rounded m t)) (sym e) ∙ v.0 in
     let n : length (shapes_of w) ≡ k = ap length c.loop-k.invariant.0 ∙ length-map (take k ss) (rounded m) ∙ length-take-le k ss (omega arith) in
     let few = c.args.table.now.few in

@@ -8,7 +8,7 @@ use Rattle.runs.proofs.Chains.{chain_next, told_same, told_more, told_next}
 use Rattle.runs.proofs.agreement.pass.Goals as goal
 
 pub loop-k-init : goal.loop-k-init
-loop-k-init g c = (c.requires.left-kept, c.requires.right_kept, refl, refl, c.requires.left-fits, c.requires.right-fits, refl, end, end)
+loop-k-init g c = (c.requires.left_kept, c.requires.right_kept, refl, refl, c.requires.left_fits, c.requires.right_fits, refl, end, end)
 
 pub loop-k-preserved : goal.loop-k-preserved
 loop-k-preserved g c =
@@ -46,7 +46,7 @@ returns g c =
     let lefts = take_all k (lefts_of xs) (omega (arith, length-map xs (λ t. reply_of t.left), c.loop-k.auto.entries, c.loop-k-test.false)) in
     let rights = take_all k (rights_of xs) (omega (arith, length-map xs (λ t. reply_of t.right), c.loop-k.auto.entries, c.loop-k-test.false)) in
     record {
-      left-kept = inv.0;
+      left_kept = inv.0;
       right_kept = inv.1;
       calls = inv.6;
       left = subst (λ t. Chain g.K.Kind.algebra (contents c.args.one.now.sheet) one t (lefts_of xs) left) calls (subst (λ t. Chain g.K.Kind.algebra (contents c.args.one.now.sheet) one (take k (calls_of room e0)) t left) lefts inv.7);

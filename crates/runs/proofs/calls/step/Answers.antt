@@ -12,13 +12,13 @@ use Rattle.runs.specs.Writing.{SpareZero, Wrote}
 use Rattle.runs.proofs.Stepping.{idle, none_left, no_work, answer_none, work, answer_done, variable_known, few_places, workable, spare_zero, step_moved}
 use Rattle.runs.proofs.calls.step.Goals as goal
 
-pub returns-in-default : goal.returns-in-default
-returns-in-default g c =
+pub returns-in_default : goal.returns-in_default
+returns-in_default g c =
     let a = g.K.Kind.algebra in let b = g.S.Store.meaning c.args.run.now.store in let d = contents c.args.run.now.sheet in
     let n = c.args.run.now.next in let size = length c.args.tray.now in
     let law = g.met.S.Store.lawful c.args.run.now.store c.requires.kept in let all = judged c.args.run.now.sheet in
     let laws = g.met.K.Kind.lawful in let fit = c.requires.fits in let long = c.if-tray-lt4096.false in
-    let out = none_left d n size long (none_since (leb 1 n && leb n (length d.statements)) (statement_of d n) c.in-default.ensures) c.args.run.now.low in
+    let out = none_left d n size long (none_since (leb 1 n && leb n (length d.statements)) (statement_of d n) c.in_default.ensures) c.args.run.now.low in
     let no = no_work d n size long out in
     record {
       answer = answer_none d n size long out;
@@ -29,8 +29,8 @@ returns-in-default g c =
       tray = sym (cond-false (works d n size) (worked a b d n ++ drop (product (target b d n)) c.args.tray.now) c.args.tray.now no);
     }
 
-pub returns-in-default-reach-of : goal.returns-in-default-reach-of
-returns-in-default-reach-of g c =
+pub returns-in_default-reach_of : goal.returns-in_default-reach_of
+returns-in_default-reach_of g c =
     let a = g.K.Kind.algebra in let b = g.S.Store.meaning c.args.run.now.store in let d = contents c.args.run.now.sheet in
     let n = c.args.run.now.next in let size = length c.args.tray.now in
     let law = g.met.S.Store.lawful c.args.run.now.store c.requires.kept in let all = judged c.args.run.now.sheet in
@@ -39,10 +39,10 @@ returns-in-default-reach-of g c =
     let st = p.1 in let there = p.0 in
     let v = c.in-Some.statement.variable in
     let k : has b.shapes v ≡ true = ap (λ t. has b.shapes t.variable) st ∙ variable_known d n size long there a laws b law all fit in
-    absurd (both_ways (has b.shapes v) (none_since (has b.shapes v) (pick b.reach v) c.in-default-reach-of.ensures) k)
+    absurd (both_ways (has b.shapes v) (none_since (has b.shapes v) (pick b.reach v) c.in_default-reach_of.ensures) k)
 
-pub returns-in-default-work-out : goal.returns-in-default-work-out
-returns-in-default-work-out g c =
+pub returns-in_default-work_out : goal.returns-in_default-work_out
+returns-in_default-work_out g c =
     let a = g.K.Kind.algebra in let b = g.S.Store.meaning c.args.run.now.store in let d = contents c.args.run.now.sheet in
     let n = c.args.run.now.next in let size = length c.args.tray.now in
     let law = g.met.S.Store.lawful c.args.run.now.store c.requires.kept in let all = judged c.args.run.now.sheet in
@@ -50,10 +50,10 @@ returns-in-default-work-out g c =
     let p = some_since (leb 1 n && leb n (length d.statements)) c.in-Some.statement (statement_of d n) c.in-Some.ensures in
     let st = p.1 in let there = p.0 in
     let w = workable d n size long there a laws b law all fit in
-    absurd (both_ways (fits b d && roomy b d n size) (none_since (fits b d && roomy b d n size) (product (target b d n)) c.in-default-work-out.ensures.answer) w)
+    absurd (both_ways (fits b d && roomy b d n size) (none_since (fits b d && roomy b d n size) (product (target b d n)) c.in_default-work_out.ensures.answer) w)
 
-pub write-all-requires : goal.write-all-requires
-write-all-requires g c =
+pub write_all-requires : goal.write_all-requires
+write_all-requires g c =
     let a = g.K.Kind.algebra in let b = g.S.Store.meaning c.args.run.now.store in let d = contents c.args.run.now.sheet in
     let n = c.args.run.now.next in let size = length c.args.tray.now in
     let law = g.met.S.Store.lawful c.args.run.now.store c.requires.kept in let all = judged c.args.run.now.sheet in
@@ -62,18 +62,18 @@ write-all-requires g c =
     let st = p.1 in let there = p.0 in
     let v = c.in-Some.statement.variable in
     let q : v ≡ (statement_of d n).variable = ap (λ t. t.variable) st in
-    let xs = c.work-out.new.tray in
+    let xs = c.work_out.new.tray in
     let w = workable d n size long there a laws b law all fit in
     let e : xs ≡ worked a b d n ++ drop (product (target b d n)) c.args.tray.now =
-    c.in-Some-work-out.ensures.tray ∙ cond-true (fits b d && roomy b d n size) (worked a b d n ++ drop (product (target b d n)) c.args.tray.now) c.args.tray.now w in
-    let wide = (some_since (has b.shapes v) (extents_of c.in-Some-reach-of.reach) (pick b.reach v) c.in-Some-reach-of.ensures).1 in
+    c.in-Some-work_out.ensures.tray ∙ cond-true (fits b d && roomy b d n size) (worked a b d n ++ drop (product (target b d n)) c.args.tray.now) c.args.tray.now w in
+    let wide = (some_since (has b.shapes v) (extents_of c.in-Some-reach_of.reach) (pick b.reach v) c.in-Some-reach_of.ensures).1 in
     let f = few_places d n size long there a laws b law all fit in
-    let k : product (extents_of c.in-Some-reach-of.reach) ≡ product (target b d n) = ap product (wide ∙ ap (pick b.reach) q) in
+    let k : product (extents_of c.in-Some-reach_of.reach) ≡ product (target b d n) = ap product (wide ∙ ap (pick b.reach) q) in
     record {
       kept = c.requires.kept;
       known = ap (has b.shapes) q ∙ variable_known d n size long there a laws b law all fit;
       wide = sym wide;
-      room = omega (arith, k, f, long, c.work-out.auto.tray);
+      room = omega (arith, k, f, long, c.work_out.auto.tray);
       spare = subst (λ u. SpareZero a.zero b u xs) (sym q) (spare_zero d n size long there a laws b law all fit xs c.args.tray.now e);
     }
 
@@ -87,16 +87,16 @@ returns g c =
     let st = p.1 in let there = p.0 in
     let v = c.in-Some.statement.variable in
     let q : v ≡ (statement_of d n).variable = ap (λ t. t.variable) st in
-    let xs = c.work-out.new.tray in
+    let xs = c.work_out.new.tray in
     let w = workable d n size long there a laws b law all fit in
     let e : xs ≡ worked a b d n ++ drop (product (target b d n)) c.args.tray.now =
-    c.in-Some-work-out.ensures.tray ∙ cond-true (fits b d && roomy b d n size) (worked a b d n ++ drop (product (target b d n)) c.args.tray.now) c.args.tray.now w in
+    c.in-Some-work_out.ensures.tray ∙ cond-true (fits b d && roomy b d n size) (worked a b d n ++ drop (product (target b d n)) c.args.tray.now) c.args.tray.now w in
     record {
       answer = answer_done d n size long there;
-      kept = c.if-not-write-all.ensures.kept;
+      kept = c.if-not-write_all.ensures.kept;
       sheet = refl;
-      moved = step_moved d n size long there a laws b law all fit xs c.args.tray.now e (g.S.Store.meaning c.write-all.new.s)
-          (subst (λ u. Wrote a.zero b u xs (g.S.Store.meaning c.write-all.new.s)) q c.if-not-write-all.ensures.wrote);
+      moved = step_moved d n size long there a laws b law all fit xs c.args.tray.now e (g.S.Store.meaning c.write_all.new.s)
+          (subst (λ u. Wrote a.zero b u xs (g.S.Store.meaning c.write_all.new.s)) q c.if-not-write_all.ensures.wrote);
       same = λ f. absurd (true≢false f);
       tray = e ∙ sym (cond-true (works d n size) (worked a b d n ++ drop (product (target b d n)) c.args.tray.now) c.args.tray.now (work d n size long there));
     }

@@ -13,14 +13,14 @@ loop-d-init c =
 pub bounds-index-d : goal.bounds-index-d
 bounds-index-d c = omega (arith, c.loop-d-test.true, c.loop-d.auto.d, within_length c.args.es.now c.args.index.now c.requires.inside)
 
-pub overflow-sub-n : goal.overflow-sub-n
-overflow-sub-n c = (within_at c.args.es.now c.args.index.now (c.loop-d.d - 1) c.requires.inside (omega (arith, c.loop-d-test.true, c.loop-d.auto.d))).0
+pub overflow_sub-n : goal.overflow_sub-n
+overflow_sub-n c = (within_at c.args.es.now c.args.index.now (c.loop-d.d - 1) c.requires.inside (omega (arith, c.loop-d-test.true, c.loop-d.auto.d))).0
 
-pub overflow-mul-n : goal.overflow-mul-n
-overflow-mul-n c = omega (arith, c.requires.places, column_fits c.args.es.now c.args.index.now c.requires.inside c.loop-d.d c.loop-d.n c.loop-d-test.true c.loop-d.auto.d c.loop-d.invariant)
+pub overflow_mul-n : goal.overflow_mul-n
+overflow_mul-n c = omega (arith, c.requires.places, column_fits c.args.es.now c.args.index.now c.requires.inside c.loop-d.d c.loop-d.n c.loop-d-test.true c.loop-d.auto.d c.loop-d.invariant)
 
-pub overflow-add-n : goal.overflow-add-n
-overflow-add-n c = omega (arith, c.requires.places, column_fits c.args.es.now c.args.index.now c.requires.inside c.loop-d.d c.loop-d.n c.loop-d-test.true c.loop-d.auto.d c.loop-d.invariant)
+pub overflow_add-n : goal.overflow_add-n
+overflow_add-n c = omega (arith, c.requires.places, column_fits c.args.es.now c.args.index.now c.requires.inside c.loop-d.d c.loop-d.n c.loop-d-test.true c.loop-d.auto.d c.loop-d.invariant)
 
 pub loop-d-preserved : goal.loop-d-preserved
 loop-d-preserved c = column_next c.args.es.now c.args.index.now c.requires.inside c.loop-d.d c.loop-d.n c.loop-d-test.true c.loop-d.auto.d c.loop-d.invariant

@@ -6,22 +6,22 @@ use Rattle.shapes.proofs.Extents.{each_at, each_solid}
 use Rattle.shapes.proofs.Numbering.{block_more, block_pos, index_more}
 use Rattle.shapes.proofs.places.coordinates_of.Goals as goal
 
-pub nonzero-div-block : goal.nonzero-div-block
-nonzero-div-block c = (each_at c.args.es.now c.loop-d.d c.requires.sound c.loop-d-test.true).0
+pub nonzero_div-block : goal.nonzero_div-block
+nonzero_div-block c = (each_at c.args.es.now c.loop-d.d c.requires.sound c.loop-d-test.true).0
 
-pub nonzero-div-coords : goal.nonzero-div-coords
-nonzero-div-coords c =
+pub nonzero_div-coords : goal.nonzero_div-coords
+nonzero_div-coords c =
     let es = c.args.es.now in let d = c.loop-d.d in let s = each_solid es c.requires.sound in
     rw (c.loop-d.invariant.0, block_more es s d c.loop-d-test.true) (block_pos es s (d + 1))
 
-pub overflow-cast-coords : goal.overflow-cast-coords
-overflow-cast-coords c = omega (arith, div-le_self c.loop-d.left (c.loop-d.block / get_or c.args.es.now c.loop-d.d 0), c.requires.places, c.requires.inside)
+pub overflow_cast-coords : goal.overflow_cast-coords
+overflow_cast-coords c = omega (arith, div-le_self c.loop-d.left (c.loop-d.block / get_or c.args.es.now c.loop-d.d 0), c.requires.places, c.requires.inside)
 
-pub overflow-add-coords : goal.overflow-add-coords
-overflow-add-coords c = omega (arith, div-le_self c.loop-d.left (c.loop-d.block / get_or c.args.es.now c.loop-d.d 0), c.requires.places, c.requires.inside)
+pub overflow_add-coords : goal.overflow_add-coords
+overflow_add-coords c = omega (arith, div-le_self c.loop-d.left (c.loop-d.block / get_or c.args.es.now c.loop-d.d 0), c.requires.places, c.requires.inside)
 
-pub nonzero-rem-left : goal.nonzero-rem-left
-nonzero-rem-left c =
+pub nonzero_rem-left : goal.nonzero_rem-left
+nonzero_rem-left c =
     let es = c.args.es.now in let d = c.loop-d.d in let s = each_solid es c.requires.sound in
     rw (c.loop-d.invariant.0, block_more es s d c.loop-d-test.true) (block_pos es s (d + 1))
 

@@ -3,8 +3,8 @@ use Rattle.shapes.proofs.Numbering.{count_more, count_all}
 use Rattle.shapes.proofs.Extents.{each_at, power_more, power_four}
 use Rattle.shapes.proofs.places.product.Goals as goal
 
-pub overflow-mul-n : goal.overflow-mul-n
-overflow-mul-n c =
+pub overflow_mul-n : goal.overflow_mul-n
+overflow_mul-n c =
     let es = c.args.es.now in let d = c.loop-e.e-index in
     let p = power_more c.loop-e.n (get_or es d 0) d c.loop-e.invariant.1 (each_at es d c.requires.0 c.loop-e-test.true).1 in
     omega (arith, p, power_four (d + 1) (omega (arith, c.requires.1, c.loop-e-test.true)))

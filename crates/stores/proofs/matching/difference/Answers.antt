@@ -12,10 +12,10 @@ returns-then-n-variables g c =
     let ss = shapes_of c.args.wanted.now in let ts = (g.S.Store.meaning c.args.s.now).shapes in
     sym (cond-false (eqb (length ss) (length ts)) _ _ (ne_eqb (length ss) (length ts) (λ e. c.if-n-variables.true (c.len-n.ensures ∙ e ∙ sym c.variables.ensures))))
 
-pub returns-in-default : goal.returns-in-default
-returns-in-default g c =
+pub returns-in_default : goal.returns-in_default
+returns-in_default g c =
     let ss = shapes_of c.args.wanted.now in
-    never_refused _ _ _ _ c.in-default.ensures (shape_next ss c.loop-k.k (omega (arith, c.len-n.ensures, c.loop-k-test.true)))
+    never_refused _ _ _ _ c.in_default.ensures (shape_next ss c.loop-k.k (omega (arith, c.len-n.ensures, c.loop-k-test.true)))
 
 pub returns-then-not-matches : goal.returns-then-not-matches
 returns-then-not-matches g c =

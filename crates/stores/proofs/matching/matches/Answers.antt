@@ -8,10 +8,10 @@ use Rattle.indices.specs.Dimensions.{same}
 use Rattle.indices.proofs.Equal.{same_uneven, same_bad, same_good, same_all}
 use Rattle.stores.proofs.matching.matches.Goals as goal
 
-pub returns-in-default : goal.returns-in-default
-returns-in-default g c =
+pub returns-in_default : goal.returns-in_default
+returns-in_default g c =
     let ss = (g.S.Store.meaning c.args.s.now).shapes in let v = c.args.v in
-    sym (and_left (has ss v) _ (refused_since (has ss v) (length (pick ss v)) 1 0 _ _ c.in-default.ensures).0)
+    sym (and_left (has ss v) _ (refused_since (has ss v) (length (pick ss v)) 1 0 _ _ c.in_default.ensures).0)
 
 pub returns-then-rank-es : goal.returns-then-rank-es
 returns-then-rank-es g c =
@@ -19,11 +19,11 @@ returns-then-rank-es g c =
     let p = done_since (has ss v) c.in-Ok.rank (length (pick ss v)) 1 0 c.in-Ok.ensures in
     sym (and_right (has ss v) (same own (pick ss v)) (same_uneven own (pick ss v) (λ e. c.if-rank-es.true (p.1 ∙ sym e ∙ ap length (sym c.extents-es.ensures)))))
 
-pub returns-in-default-extent : goal.returns-in-default-extent
-returns-in-default-extent g c =
+pub returns-in_default-extent : goal.returns-in_default-extent
+returns-in_default-extent g c =
     let ss = (g.S.Store.meaning c.args.s.now).shapes in let v = c.args.v in
     let p = done_since (has ss v) c.in-Ok.rank (length (pick ss v)) 1 0 c.in-Ok.ensures in
-    never_refused _ _ _ _ c.in-default-extent.ensures (extent_next ss v c.loop-d.d p.0 (omega (arith, p.1, c.if-rank-es.false, c.loop-d-test.true)))
+    never_refused _ _ _ _ c.in_default-extent.ensures (extent_next ss v c.loop-d.d p.0 (omega (arith, p.1, c.if-rank-es.false, c.loop-d-test.true)))
 
 pub returns-then-e-es : goal.returns-then-e-es
 returns-then-e-es g c =

@@ -10,7 +10,7 @@ use Rattle.elements.proofs.metres.DistanceQuantity.quotient.Goals as goal
 pub returns : goal.returns
 returns c =
     let x = c.args.self in let y = c.args.other in
-    let h : nought y.metres ≡ false = sym c.if-is-zero.ensures in
+    let h : nought y.metres ≡ false = sym c.if-is_zero.ensures in
     let e : c.of.result ≡ metres.over x y =
     worked_out quot_z c.wide.result c.wide-2.result x y c.wide.ensures c.wide-2.ensures c.of.result
     (quotient_fits x y) c.of.ensures

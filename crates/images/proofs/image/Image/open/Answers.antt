@@ -7,5 +7,5 @@ use Rattle.images.proofs.image.Image.open.Goals as goal
 pub returns-in-Ok : goal.returns-in-Ok
 returns-in-Ok g c =
     let a = g.K.Kind.algebra in let ds = c.args.declared.now in
-    let e = c.in-Ok.ensures ∙ ap (image_answer a ds) c.as-slice.ensures.value in
+    let e = c.in-Ok.ensures ∙ ap (image_answer a ds) c.as_slice.ensures.value in
     record { answer = e; memory = refl; laid = opened_laid a ds (vec_items c.args.bytes) (shapes_of c.in-Ok.table) e }

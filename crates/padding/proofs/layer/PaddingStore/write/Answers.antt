@@ -15,7 +15,7 @@ returns-then-not-contains g c =
     let s = c.args.self.now in let ss = shapes_of s.table in let b = g.S.Store.meaning s.below in
     let a = g.S.Item.Kind.algebra in let v = c.args.v in let i = c.args.index.now in let x = c.args.x in
     let p = sym c.if-not-contains.ensures in
-    let q = sym c.if-not-is-zero.ensures.value in
+    let q = sym c.if-not-is_zero.ensures.value in
     let r : answered c.match-read.result ≡ write_answer a (padded ss b) v i x = elim c.match-read.branch [
       | in-Ok w ↦ ap answered w.result-is ∙ pad_spare a s.m ss b c.requires.1 v i x _ p q w.in-Ok.ensures
       | in-Err w ↦ ap answered w.result-is ∙ pad_refused a s.m ss b c.requires.1 v i x _ _ w.in-Err.ensures
@@ -28,13 +28,13 @@ returns g c =
     let s = c.args.self.now in let ss = shapes_of s.table in let b = g.S.Store.meaning s.below in
     let a = g.S.Item.Kind.algebra in let v = c.args.v in let i = c.args.index.now in let x = c.args.x in
     let d = g.S.Store.meaning c.write.new.self in
-    let h : (within (pick ss v) i ≡ true) ⊎ (c.is-zero.result ≡ true) = elim c.else-not-is-zero.branch [
-      | else-not-is-zero-via-then-not-is-zero+else-not-contains w ↦ inl (and_parts (has ss v) (within (pick ss v) i) (sym w.if-not-contains.ensures)).1
-      | else-not-is-zero-via-else-not-is-zero w ↦ inr w.if-not-is-zero.false
+    let h : (within (pick ss v) i ≡ true) ⊎ (c.is_zero.result ≡ true) = elim c.else-not-is_zero.branch [
+      | else-not-is_zero-via-then-not-is_zero+else-not-contains w ↦ inl (and_parts (has ss v) (within (pick ss v) i) (sym w.if-not-contains.ensures)).1
+      | else-not-is-zero-via-else-not-is-zero w ↦ inr w.if-not-is_zero.false
     ] in
-    let nil : within (pick ss v) i ≡ false → x ≡ a.zero = λ n. ⊎_elim (λ o. absurd (both_ways (within (pick ss v) i) n o)) (λ o. c.is-zero.ensures.decides.0 o) h in
+    let nil : within (pick ss v) i ≡ false → x ≡ a.zero = λ n. ⊎_elim (λ o. absurd (both_ways (within (pick ss v) i) n o)) (λ o. c.is_zero.ensures.decides.0 o) h in
     record {
-      answer = c.write.ensures.answer ∙ pad_answer a s.m ss b c.requires.1 v i x (⊎_elim inl (λ o. inr (sym c.is-zero.ensures.value ∙ o)) h);
+      answer = c.write.ensures.answer ∙ pad_answer a s.m ss b c.requires.1 v i x (⊎_elim inl (λ o. inr (sym c.is_zero.ensures.value ∙ o)) h);
       kept = (c.write.ensures.kept, pad_kept a.zero s.m ss b c.requires.1 v i x _ d nil c.write.ensures.written);
       same = λ n. ap (λ t. record { table = s.table; m = s.m; below = t }) (c.write.ensures.same n);
       written = pad_written a.zero s.m ss b c.requires.1 v i x _ d c.write.ensures.written;

@@ -22,17 +22,17 @@ shape d n r e p f =
       places = omega (arith, p ∙ ap product (front d));
     })
 
-pub returns-then-not-in-range : goal.returns-then-not-in-range
-returns-then-not-in-range c =
+pub returns-then-not-in_range : goal.returns-then-not-in_range
+returns-then-not-in_range c =
     let d = c.args.declared.now in
-    let e = ap each (sym (front d)) ∙ sym c.if-not-in-range.ensures in
+    let e = ap each (sym (front d)) ∙ sym c.if-not-in_range.ensures in
     sym (cond-false (valid d) _ _ (invalid_shape d (improper_extent (declared_extents d) e)))
 
-pub returns-then-not-all-zero : goal.returns-then-not-all-zero
-returns-then-not-all-zero c =
+pub returns-then-not-all_zero : goal.returns-then-not-all_zero
+returns-then-not-all_zero c =
     let d = c.args.declared.now in
     let l : length d.extents ≡ 4 = search rules in
-    let e = ap zeros (sym (rest d l)) ∙ sym c.if-not-all-zero.ensures in
+    let e = ap zeros (sym (rest d l)) ∙ sym c.if-not-all_zero.ensures in
     sym (cond-false (valid d) _ _ (invalid_rest d e))
 
 pub returns-then-product-gt4096 : goal.returns-then-product-gt4096
@@ -41,15 +41,15 @@ returns-then-product-gt4096 c =
     let e = c.product.ensures ∙ ap product (front d) in
     sym (cond-false (valid d) _ _ (invalid_shape d (improper_many (declared_extents d) (omega (arith, e, c.if-product-gt4096.true)))))
 
-pub invariant-of-result : goal.invariant-of-result
-invariant-of-result c =
+pub invariant_of-result : goal.invariant_of-result
+invariant_of-result c =
     let d = c.args.declared.now in
     let l : length d.extents ≡ 4 = search rules in
-    (l, (c.if-rank-gt4.false, (shape d c.product.result c.if-rank-gt4.false c.if-not-in-range.ensures c.product.ensures c.if-product-gt4096.false, tt)))
+    record { whole = l; small = c.if-rank-gt4.false; sound = shape d c.product.result c.if-rank-gt4.false c.if-not-in_range.ensures c.product.ensures c.if-product-gt4096.false }
 
 pub returns : goal.returns
 returns c =
     let d = c.args.declared.now in
     let l : length d.extents ≡ 4 = search rules in
-    let z = ap zeros (sym (rest d l)) ∙ sym c.if-not-all-zero.ensures in
-    sym (cond-true (valid d) _ _ (valid_from d c.if-rank-gt4.false (shape d c.product.result c.if-rank-gt4.false c.if-not-in-range.ensures c.product.ensures c.if-product-gt4096.false) z))
+    let z = ap zeros (sym (rest d l)) ∙ sym c.if-not-all_zero.ensures in
+    sym (cond-true (valid d) _ _ (valid_from d c.if-rank-gt4.false (shape d c.product.result c.if-rank-gt4.false c.if-not-in_range.ensures c.product.ensures c.if-product-gt4096.false) z))

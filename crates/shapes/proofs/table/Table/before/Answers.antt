@@ -12,7 +12,7 @@ loop-k-preserved c =
     let r = ap (λ x. product (extents_of x)) c.index-self-k.is in
     let a = ap product (shapes_at t k s l c.index-self-k.is) in
     let m = total_more (shapes_of t) k (omega (arith, shapes_length t)) in
-    let q = c.size_sum.ensures in
+    let q = c.size-sum.ensures in
     let f = (proper_parts (extents_of s) s.sound).places in
     let i = c.loop-k.invariant in
     (omega arith, omega arith)

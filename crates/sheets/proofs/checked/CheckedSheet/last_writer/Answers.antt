@@ -23,10 +23,10 @@ returns c =
     let ln : length (take n xs) ≡ n = length-take-le n xs (omega (arith, w.statements_whole, w.few_statements)) in
     let lm : length (take (s - 1) xs) ≡ s - 1 = length-take-le (s - 1) xs (omega (arith, w.statements_whole, w.few_statements, c.if-s-self.false)) in
     let l : length (take (s - 1) xs) + 1 ≡ s = omega (arith, lm, c.if-s-lt1.false) in
-    let h = declared_since ss v c.shape.result (sym c.if-is-err.ensures.value) c.shape.ensures in
+    let h = declared_since ss v c.shape.result (sym c.if-is_err.ensures.value) c.shape.ensures in
     record {
       asked = sym (cond-true (has ss v && (leb 1 s && leb s (length (take n xs) + 1))) _ _
           (and_from (has ss v) (leb 1 s && leb s (length (take n xs) + 1)) h (counted (length (take n xs) + 1) s c.if-s-lt1.false (omega (arith, ln, c.if-s-self.false)))));
-      found = moved (take (s - 1) xs) (take n xs) v s (λ j a b. before xs (s - 1) n j a (omega (arith, b)) (omega (arith, b, c.if-s-self.false))) c.last-before.result
-          (subst (λ m. Writer (take (s - 1) xs) v m c.last-before.result) l c.last-before.ensures);
+      found = moved (take (s - 1) xs) (take n xs) v s (λ j a b. before xs (s - 1) n j a (omega (arith, b)) (omega (arith, b, c.if-s-self.false))) c.last_before.result
+          (subst (λ m. Writer (take (s - 1) xs) v m c.last_before.result) l c.last_before.ensures);
     }

@@ -21,7 +21,7 @@ returns c =
     let low = c.if-k-lt1.false in
     let high = c.if-k-self.false in
     let there : node_there (contents w) k ≡ true = counted (length (take n w.nodes)) k low (omega (arith, l, high)) in
-    let is : c.made-of.result ≡ term_of (take n w.nodes) k = c.made-of.ensures ∙ ap (λ nd. term_as nd (form_of nd.kind)) (sym (row_at w.nodes no_node n k low high)) in
+    let is : c.made_of.result ≡ term_of (take n w.nodes) k = c.made_of.ensures ∙ ap (λ nd. term_as nd (form_of nd.kind)) (sym (row_at w.nodes no_node n k low high)) in
     record {
       value = is ∙ sym (cond-true (node_there (contents w) k) _ _ there);
       unfolds = subst (λ o. Told (contents w) k o) (sym is) (told (contents w) k (term_of (take n w.nodes) k) there ((judged w).unfolds k there));

@@ -1,6 +1,6 @@
 use Rattle.std.proofs.Common.{◌≡◌, ◌<◌, length, get_or, vec_items, vec_len, sym, ap, ◌∙◌, arith}
 use Rattle.std.proofs.lemmas.List.{get_or_read}
-use Rattle.refusals.specs.Refusals.{Answer, done, then}
+use Rattle.refusals.specs.Refusals.{Answer, done, and_then}
 use Rattle.shapes.specs.Shapes.{shapes_of, place_answer}
 use Rattle.shapes.proofs.Tables.{placed, cell_lt}
 use Rattle.stores.specs.Flat.{flat_read}
@@ -9,15 +9,15 @@ use Rattle.stores.proofs.cells.CellsStore.read.Goals as goal
 pub index-requires : goal.index-requires
 index-requires g c =
     let s = c.args.self.now in let ss = shapes_of s.table in let i = c.args.index.now in
-    let p = placed ss c.args.v i c.in-ok-k.k c.in-ok-k.ensures in
+    let p = placed ss c.args.v i c.in_ok-k.k c.in_ok-k.ensures in
     omega (arith, cell_lt ss c.args.v i p.known p.inside, s.holds, p.number)
 
 pub returns : goal.returns
 returns g c =
     let s = c.args.self.now in let ss = shapes_of s.table in let i = c.args.index.now in
-    let xs = vec_items s.elements in let k = c.in-ok-k.k in let a = g.K.Kind.algebra in
-    let p = placed ss c.args.v i k c.in-ok-k.ensures in
+    let xs = vec_items s.elements in let k = c.in_ok-k.k in let a = g.K.Kind.algebra in
+    let p = placed ss c.args.v i k c.in_ok-k.ensures in
     let l : k < length xs = omega (arith, cell_lt ss c.args.v i p.known p.inside, s.holds, p.number, s.elements.ok.0) in
     let e = ap done (get_or_read xs k c.index.result.now l c.index.ensures a.zero)
-    ∙ ap (λ t. then t (λ n. done (get_or xs n a.zero))) c.in-ok-k.ensures in
+    ∙ ap (λ t. and_then t (λ n. done (get_or xs n a.zero))) c.in_ok-k.ensures in
     record { answer = e ∙ sym (flat_read a ss xs c.args.v i); element = e }
