@@ -8,7 +8,7 @@ use Rattle.padding.specs.Padding.{padded}
 use Rattle.stores.proofs.Refused.{unwritten}
 use Rattle.padding.specs.Padded.{pad_spare, pad_refused, pad_answer, pad_written, pad_kept}
 use Rattle.padding.proofs.layer.PaddingStore.write.Goals as goal
-use Rattle.padding.proofs.layer.PaddingStore.write.Goals.{in-Ok, in-Err, else-not-is-zero-via-then-not-is-zero+else-not-contains, else-not-is-zero-via-else-not-is-zero}
+use Rattle.padding.proofs.layer.PaddingStore.write.Goals.{in-Ok, in-Err, else-not-is_zero-via-then-not-is_zero+else-not-contains, else-not-is_zero-via-else-not-is_zero}
 
 pub returns-then-not-contains : goal.returns-then-not-contains
 returns-then-not-contains g c =
@@ -30,7 +30,7 @@ returns g c =
     let d = g.S.Store.meaning c.write.new.self in
     let h : (within (pick ss v) i ≡ true) ⊎ (c.is_zero.result ≡ true) = elim c.else-not-is_zero.branch [
       | else-not-is_zero-via-then-not-is_zero+else-not-contains w ↦ inl (and_parts (has ss v) (within (pick ss v) i) (sym w.if-not-contains.ensures)).1
-      | else-not-is-zero-via-else-not-is-zero w ↦ inr w.if-not-is_zero.false
+      | else-not-is_zero-via-else-not-is_zero w ↦ inr w.if-not-is_zero.false
     ] in
     let nil : within (pick ss v) i ≡ false → x ≡ a.zero = λ n. ⊎_elim (λ o. absurd (both_ways (within (pick ss v) i) n o)) (λ o. c.is_zero.ensures.decides.0 o) h in
     record {
