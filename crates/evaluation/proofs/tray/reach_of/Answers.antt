@@ -27,8 +27,8 @@ bounds-extents-d g c =
     let n = rank_told b law v c.in-Ok.rank k c.in-Ok.ensures in
     omega (arith, n, c.loop-d-test.true, reach_rank b law v k)
 
-pub offset-bounds-extents-d : goal.offset-bounds-extents-d
-offset-bounds-extents-d g c =
+pub offset_bounds-extents-d : goal.offset_bounds-extents-d
+offset_bounds-extents-d g c =
     let b = g.S.Store.meaning c.args.s.now in let v = c.args.v in let rs = pick b.reach v in let d = c.loop-d.d in
     let law = g.met.S.Store.lawful c.args.s.now c.requires in
     let k = (done_since (has b.shapes v) c.in-Ok.rank (length (pick b.shapes v)) 1 0 c.in-Ok.ensures).0 in

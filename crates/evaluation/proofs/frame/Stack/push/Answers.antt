@@ -8,11 +8,11 @@ listed c = omega (arith, length_tops c.args.self.now.frames c.args.self.now.dept
 pub bounds-self-at : goal.bounds-self-at
 bounds-self-at c = omega (arith, length_tops c.args.self.now.frames c.args.self.now.depth)
 
-pub invariant-of-self : goal.invariant-of-self
-invariant-of-self c = (
-  length-set c.args.self.now.frames c.args.self.now.depth c.args.frame ∙ c.args.self.now.whole,
-  (omega (arith, length_tops c.args.self.now.frames c.args.self.now.depth), tt),
-)
+pub invariant_of-self : goal.invariant_of-self
+invariant_of-self c = record {
+  whole = length-set c.args.self.now.frames c.args.self.now.depth c.args.frame ∙ c.args.self.now.whole;
+  small = omega (arith, length_tops c.args.self.now.frames c.args.self.now.depth);
+}
 
 pub returns : goal.returns
 returns c =
