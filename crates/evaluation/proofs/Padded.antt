@@ -1,15 +1,15 @@
 -- The law of padding. Assumes nothing.
-use Rattle.std.proofs.Common.{◌≡◌, ℕ, zero, suc, ◌+◌, ◌-◌, ◌<◌, ◌≤◌, Bool, true, false, ◌&&◌, ◌⊎◌, List, [], ◌∷◌, ◌++◌, length, take, drop, sym, refl, ap, ◌∙◌, subst, inl, inr, ⊎_elim, arith}
-use Rattle.std.proofs.lemmas.Bool.{and_from, and_right, both_ways, false≢true, cases_lt}
+use Rattle.std.proofs.Common.{◌≡◌, ℕ, zero, suc, ◌+◌, ◌-◌, ◌<◌, ◌≤◌, Bool, true, false, ◌⊎◌, List, [], ◌∷◌, ◌++◌, length, take, drop, sym, refl, ap, ◌∙◌, subst, inl, inr, ⊎_elim, arith}
+use Rattle.std.proofs.lemmas.Bool.{and_from, and_right, both_ways}
 use Rattle.elements.specs.Algebra.{Algebra, Laws, total}
 use Rattle.indices.specs.Dimensions.{two_of, exchanged, removed, inserted}
 use Rattle.indices.specs.Places.{pick, at1, has, within}
-use Rattle.indices.proofs.Within.{two_parts, within_length, within_parts, within_join, within_exchanged, within_exchanged_back, within_inserted, within_removed}
-use Rattle.sheets.specs.Language.{Expr, Operation, plus, minus, times, over, Typed, variable, outer, pointwise, turned, contracted, of_variable, of_outer_product, element_by_element, scalar_times, divided_by_scalar, of_transposition, of_contraction}
-use Rattle.stores.specs.Meaning.{Meaning, Lawful, in_shape}
+use Rattle.indices.proofs.Within.{two_parts, within_parts, within_join, within_exchanged, within_exchanged_back, within_inserted, within_removed}
+use Rattle.sheets.specs.Language.{Expr, Operation, plus, minus, times, over, Typed, pointwise, of_variable, of_outer_product, element_by_element, scalar_times, divided_by_scalar, of_transposition, of_contraction}
+use Rattle.stores.specs.Meaning.{Meaning, Lawful}
 use Rattle.evaluation.specs.Law.{Shows, Law}
 use Rattle.evaluation.specs.Value.{applied, wider, spans, seen, value}
-use Rattle.evaluation.proofs.Spans.{spans_type, wider_same, spans_length, spans_same, shape_reached, limit_bounds, limit_same, seen_self, seen_scalar, seen_alike}
+use Rattle.evaluation.proofs.Spans.{spans_type, wider_same, spans_length, spans_same, shape_reached, limit_bounds, limit_same, seen_self, seen_alike}
 
 -- sums: of equal values, and of zeros past the limit
 module _ {E : Type 0} (a : Algebra E) (f g : ℕ → E) where

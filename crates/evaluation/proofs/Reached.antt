@@ -1,8 +1,8 @@
 -- The rounded extents of a variable are a shape. Assumes nothing.
-use Rattle.std.proofs.Common.{◌≡◌, ℕ, zero, suc, ◌+◌, ◌<◌, ◌≤◌, Bool, true, false, cond, ◌&&◌, eqb, leb, List, [], ◌∷◌, length, drop, Some, None, Option, sym, refl, ap, ◌∙◌, arith}
+use Rattle.std.proofs.Common.{◌≡◌, ℕ, zero, suc, ◌≤◌, true, ◌&&◌, eqb, leb, List, [], ◌∷◌, length, drop, Some, None, refl, ap, ◌∙◌, arith}
 use Rattle.std.proofs.lemmas.Bool.{and_parts, and_from, le-leb, cond-true}
 use Rattle.shapes.specs.declared.declaration.Declaration.{Declaration}
-use Rattle.indices.specs.Places.{pick, has, each, proper, product}
+use Rattle.indices.specs.Places.{pick, has, each, proper}
 use Rattle.refusals.specs.Refusals.{done, refused}
 use Rattle.shapes.specs.Shapes.{zeros, valid, declared_extents, shape_declared, rank_answer}
 use Rattle.shapes.proofs.Asked.{done_same}

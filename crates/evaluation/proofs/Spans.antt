@@ -1,11 +1,11 @@
 -- How far the dimensions of an expression that has a type go. Assumes nothing.
-use Rattle.std.proofs.Common.{◌≡◌, ℕ, zero, suc, ◌+◌, ◌-◌, ◌<◌, ◌≤◌, Bool, true, false, ◌&&◌, leb, List, [], ◌∷◌, ◌++◌, length, get_or, sym, refl, ap, ◌∙◌, subst, arith}
+use Rattle.std.proofs.Common.{◌≡◌, ℕ, zero, suc, ◌≤◌, true, ◌&&◌, leb, List, [], ◌∷◌, length, sym, refl, ap, ◌∙◌, subst, arith}
 use Rattle.std.proofs.lemmas.Bool.{and_parts, and_from, leb-true, le-leb, false≢true}
-use Rattle.indices.specs.Dimensions.{two_of, exchanged, removed, Each2}
-use Rattle.indices.specs.Places.{pick, at1, has, within, each, proper}
+use Rattle.indices.specs.Dimensions.{exchanged, removed, Each2}
+use Rattle.indices.specs.Places.{pick, at1, has, within, each}
 use Rattle.shapes.proofs.Extents.{proper_parts, each_parts}
-use Rattle.indices.proofs.Within.{within_length, each2_length, each2_append, each2_exchanged, each2_removed, each2_at, each2_unique}
-use Rattle.sheets.specs.Language.{Expr, Operation, plus, minus, times, over, Typed, variable, outer, pointwise, turned, contracted, of_variable, of_outer_product, element_by_element, scalar_times, divided_by_scalar, of_transposition, of_contraction}
+use Rattle.indices.proofs.Within.{each2_length, each2_append, each2_exchanged, each2_removed, each2_at, each2_unique}
+use Rattle.sheets.specs.Language.{Expr, Operation, plus, minus, times, over, Typed, of_variable, of_outer_product, element_by_element, scalar_times, divided_by_scalar, of_transposition, of_contraction}
 use Rattle.stores.specs.Meaning.{Meaning, Lawful, Covers, dimension}
 use Rattle.evaluation.specs.Value.{wider, spans, seen}
 

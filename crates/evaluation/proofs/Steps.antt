@@ -1,12 +1,11 @@
 -- One turn of an evaluation: what it keeps, and that less is left. Assumes nothing.
-use Rattle.std.proofs.Common.{◌≡◌, ℕ, zero, suc, ◌+◌, ◌-◌, ◌*◌, ◌<◌, ◌≤◌, Bool, true, false, cond, ◌&&◌, ltb, leb, List, [], ◌∷◌, ◌++◌, length, take, drop, sym, refl, ap, ◌∙◌, subst, suc-mul, add-one, arith}
+use Rattle.std.proofs.Common.{◌≡◌, ℕ, zero, suc, ◌+◌, ◌-◌, ◌*◌, ◌<◌, ◌≤◌, Bool, true, false, cond, ltb, leb, List, [], ◌∷◌, length, take, drop, sym, refl, ap, ◌∙◌, subst, suc-mul, arith}
 use Rattle.std.proofs.lemmas.Bool.{and_parts, and_from, leb-true, ltb-true, ltb-false, le-leb}
 use Rattle.elements.specs.Algebra.{Algebra, total}
 use Rattle.indices.specs.declared.index.Index.{Index}
 use Rattle.indices.specs.Dimensions.{two_of, exchanged, removed, inserted}
 use Rattle.indices.specs.Places.{pick, at1, has, within}
 use Rattle.indices.specs.Coordinates.{coordinates}
-use Rattle.indices.proofs.Entries.{two_from}
 use Rattle.indices.proofs.Within.{two_parts, within_length, within_parts, length_exchanged, length_removed, within_exchanged, within_inserted}
 use Rattle.sheets.specs.declared.term.Operation.{Operation}
 use Rattle.sheets.specs.declared.term.Operation.TheVariants.{Times}
@@ -14,7 +13,7 @@ use Rattle.sheets.specs.declared.term.Term.TheVariants.{Variable, Outer, Pointwi
 use Rattle.sheets.specs.Language.{Expr, Typed, variable, outer, pointwise, turned, contracted, depth}
 use Rattle.sheets.specs.Rules.{info_at, earlier, larger}
 use Rattle.sheets.specs.Terms.{meant, node_there, UnfoldsTo}
-use Rattle.sheets.proofs.Typing.{same_type, variable_type, turned_type, contracted_type}
+use Rattle.sheets.proofs.Typing.{variable_type, turned_type, contracted_type}
 use Rattle.stores.specs.Meaning.{in_reach}
 use Rattle.evaluation.specs.declared.frame.Focus.{Focus}
 use Rattle.evaluation.specs.declared.frame.Focus.TheVariants.{Down, Up}
@@ -23,7 +22,7 @@ use Rattle.evaluation.specs.declared.frame.Frame.TheVariants.{Left, Right, Sum}
 use Rattle.evaluation.specs.Machine.{Setting, Works, decoded, expr, worth, goes, Runs, extendable, onward, plug, work, turns, rest, Framed, whole, load, Sound, Stepped, Room, Resumed, on_right, with_left, to_next, to_end}
 use Rattle.evaluation.specs.Value.{applied, spans, seen, value}
 use Rattle.evaluation.proofs.Padded.{operands_reached, two_reached, pair_reached}
-use Rattle.evaluation.proofs.Spans.{spans_length, limit_bounds, seen_alike}
+use Rattle.evaluation.proofs.Spans.{spans_length, limit_bounds}
 
 -- sums that go on
 onward_total : {E : Type 0} (a : Algebra E) (f : ℕ → E) (c l : ℕ) → onward a f (l + 1) c (total a f l) ≡ total a f (c + l)

@@ -1,8 +1,8 @@
 -- What a statement's variable and node have to do with each other over a store. Assumes nothing.
-use Rattle.std.proofs.Common.{◌≡◌, ℕ, ◌≤◌, true, ◌&&◌, leb, List, length, sym, ap, ◌∙◌, subst}
+use Rattle.std.proofs.Common.{◌≡◌, ℕ, true, ◌&&◌, leb, length, subst}
 use Rattle.std.proofs.lemmas.Bool.{and_parts, leb-true}
 use Rattle.indices.specs.Places.{pick, has}
-use Rattle.sheets.specs.Language.{Typed, variable, of_variable}
+use Rattle.sheets.specs.Language.{Typed, of_variable}
 use Rattle.sheets.specs.Sheets.{Contents}
 use Rattle.sheets.specs.Terms.{expression_of, node_there, StatementMeans, Judged}
 use Rattle.stores.specs.Meaning.{Meaning, Lawful}

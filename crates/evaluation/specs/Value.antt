@@ -9,7 +9,7 @@
 --   plain_value   its plain value, over any elements; contractions go up to the extents
 --   fits         store and sheet have the same shapes
 --   value_answer  the value of a node at an index, if store and sheet have the same shapes and the index is in reach
-use Rattle.std.specs.Prelude.{ℕ, suc, Bool, true, false, cond, ◌&&◌, List, [], ◌∷◌, ◌++◌, length, take, drop, Some, None, Option}
+use Rattle.std.specs.Prelude.{ℕ, Bool, true, false, cond, ◌&&◌, List, [], ◌∷◌, ◌++◌, length, take, drop, Some, None, Option}
 use Rattle.elements.specs.Algebra.{Algebra, total}
 use Rattle.indices.specs.Dimensions.{exchanged, removed, inserted}
 use Rattle.indices.specs.Places.{pick, at1, within}

@@ -1,12 +1,12 @@
 -- Products of tables: entries that stand in a store, filled in step by step. Assumes nothing.
-use Rattle.std.proofs.Common.{◌≡◌, ℕ, zero, suc, ◌+◌, ◌<◌, ◌≤◌, Bool, true, false, cond, ◌&&◌, ◌||◌, leb, ◌⊎◌, List, [], ◌∷◌, length, sym, refl, ap, ◌∙◌, subst, inl, inr, ⊎_elim, add-one, arith}
+use Rattle.std.proofs.Common.{◌≡◌, ℕ, zero, suc, ◌+◌, ◌<◌, ◌≤◌, true, ◌&&◌, ◌||◌, leb, ◌⊎◌, List, [], ◌∷◌, length, sym, refl, ap, ◌∙◌, subst, inl, inr, ⊎_elim, add-one, arith}
 use Rattle.std.proofs.lemmas.Bool.{and_from, le-leb, cond-true, or_left, cases_lt}
 use Rattle.elements.specs.Algebra.{Algebra, total, is_zero}
 use Rattle.indices.specs.Places.{has, pick, within, at1}
-use Rattle.refusals.specs.Refusals.{Answer, done, refused}
+use Rattle.refusals.specs.Refusals.{done}
 use Rattle.shapes.specs.Shapes.{rank_answer, extent_answer}
 use Rattle.shapes.proofs.Asked.{done_since}
-use Rattle.stores.specs.Meaning.{Meaning, Lawful, Covers, Written, in_reach, in_shape, read_answer, write_answer}
+use Rattle.stores.specs.Meaning.{Meaning, Lawful, Covers, Written, in_reach, read_answer, write_answer}
 use Rattle.fourpiles.specs.declared.plan.Plan.{Plan}
 use Rattle.fourpiles.specs.Product.{Sides, Conforms, entry, Filled, in_row, in_rows}
 

@@ -1,19 +1,19 @@
 -- The cells of an image, read and written. Assumes nothing.
-use Rattle.std.specs.Prelude.{◌≡◌, ℕ, ◌+◌, ◌-◌, ◌*◌, ◌^◌, ◌<◌, ◌≤◌, Bool, true, false, cond, ◌&&◌, ◌||◌, ◌⊎◌, List, [], ◌∷◌, length, is_some, Some, ◌≢◌}
+use Rattle.std.specs.Prelude.{◌≡◌, ℕ, ◌+◌, ◌-◌, ◌*◌, ◌^◌, ◌<◌, ◌≤◌, Bool, true, false, cond, ◌||◌, List, [], length, is_some, ◌≢◌}
 use Rattle.std.proofs.Math.Path.{refl, ap}
-use Rattle.std.proofs.Common.{sym, ◌∙◌, subst, inl, inr, ⊎_elim, arith}
+use Rattle.std.proofs.Common.{sym, ◌∙◌, subst, ⊎_elim, arith}
 use Rattle.std.specs.Option.{unwrap_or}
 use Rattle.std.proofs.lemmas.Bool.{and_parts, both_ways, cases_order, cases_eq}
 use Rattle.elements.specs.Algebra.{Algebra, Laws, is_zero}
 use Rattle.shapes.specs.declared.table.Table.{Table}
 use Rattle.indices.specs.Places.{within, product, column, pick, has}
-use Rattle.refusals.specs.Refusals.{Answer, done, refused, and_then}
+use Rattle.refusals.specs.Refusals.{done, refused, and_then}
 use Rattle.shapes.specs.Shapes.{shapes_of}
 use Rattle.shapes.proofs.Columns.{column_lt, column_same}
 use Rattle.shapes.proofs.Tables.{counted_parts}
-use Rattle.stores.specs.Meaning.{Meaning, Lawful, Written, read_answer, write_answer, in_reach, in_shape}
+use Rattle.stores.specs.Meaning.{Lawful, Written, read_answer, write_answer, in_shape}
 use Rattle.stores.specs.Flat.{flat_lawful}
-use Rattle.images.specs.Bytes.{number, number_at, bytes, part, patched}
+use Rattle.images.specs.Bytes.{number, number_at, bytes, patched}
 use Rattle.images.specs.Image.{imaged, spot_answer}
 use Rattle.images.specs.Layout.{offset, spot, coded, Laid}
 use Rattle.images.specs.Numbers.{number_code}

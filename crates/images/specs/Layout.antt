@@ -5,7 +5,7 @@
 --   pairs          question 7: each pair lies in the buffer, and its part at or after the end of the part before
 --   codes          question 8: each cell holds a code of the kind
 --   Laid           what these questions come to
-use Rattle.std.specs.Prelude.{◌≡◌, ℕ, zero, suc, ◌+◌, ◌-◌, ◌*◌, ◌<◌, ◌≤◌, Bool, true, cond, ◌&&◌, List, [], ◌∷◌, ◌++◌, length, take, is_some, ◌==◌, nat_le}
+use Rattle.std.specs.Prelude.{◌≡◌, ℕ, zero, suc, ◌+◌, ◌-◌, ◌*◌, ◌<◌, ◌≤◌, Bool, true, cond, ◌&&◌, List, [], ◌∷◌, length, take, is_some, ◌==◌, nat_le}
 use Rattle.elements.specs.Algebra.{Algebra}
 use Rattle.indices.specs.Places.{product, column, pick, has}
 use Rattle.refusals.specs.Refusals.{Answer, done, refused, and_then}

@@ -1,9 +1,9 @@
 -- Numbers as big_endian bytes, there and back. Assumes nothing.
-use Rattle.std.specs.Prelude.{◌≡◌, ℕ, zero, suc, ◌+◌, ◌-◌, ◌*◌, ◌/◌, ◌%◌, ◌^◌, ◌<◌, ◌≤◌, List, [], ◌∷◌, length, drop, slice_index, slice_index_or, refl}
-use Rattle.std.proofs.Common.{sym, ap, ◌∙◌, subst, add-mul, mul_assoc, mul_comm, mul-one, mod-lt, mod-eq_of_lt, div-add-mod', div-one, pow-suc, add-one, arith}
+use Rattle.std.specs.Prelude.{◌≡◌, ℕ, zero, suc, ◌+◌, ◌*◌, ◌/◌, ◌%◌, ◌^◌, ◌<◌, ◌≤◌, List, [], ◌∷◌, length, drop, slice_index, slice_index_or, refl}
+use Rattle.std.proofs.Common.{sym, ap, ◌∙◌, add-mul, mul_assoc, mul_comm, mul-one, mod-lt, mod-eq_of_lt, div-add-mod', div-one, pow-suc, add-one, arith}
 use Rattle.std.proofs.Math.Nat.{mod-one, pow-le-pow_right}
-use Rattle.std.proofs.lemmas.List.{at_drop_more, drop_all, length-drop}
-use Rattle.std.proofs.lemmas.Nat.{mul-add-lt, mod-mul-add, mul-le}
+use Rattle.std.proofs.lemmas.List.{at_drop_more, drop_all}
+use Rattle.std.proofs.lemmas.Nat.{mul-add-lt, mod-mul-add}
 use Rattle.images.specs.Bytes.{number, bytes}
 
 -- a list of bytes

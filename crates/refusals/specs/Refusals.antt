@@ -4,7 +4,7 @@
 --   and_then               a question that is asked after another was answered
 --   answer, answered       the answer that a result is, at what is seen of its value; at the value itself
 --   opened, held           of a call that takes memory: its answer, and the memory, kept or given back
-use Rattle.std.specs.Prelude.{◌≡◌, ℕ, Ok, Err, Result}
+use Rattle.std.specs.Prelude.{ℕ, Ok, Err, Result}
 use Rattle.refusals.specs.declared.refusal.Declined.{Declined}
 use Rattle.refusals.specs.declared.refusal.Refusal.{Refusal}
 use Rattle.refusals.specs.declared.refusal.Refusal.TheVariants.{NoSuchVariable, OutOfReach, SpareTakesZero, TooManyDeclarations, BadDeclaration, TooFewElements, BadHeader, BadPair, BadCode, BadVectorLength, TooWide, OtherCountBelow, OtherShapeBelow, TooManyRows, BadNode, BadOperand, NoType, TooDeep, BadTarget, OtherType, OtherCountDeclared, OtherShapeDeclared, OutOfShape, ShortTray, NoStatementLeft, ValueNotTaken, OutOfSheet}

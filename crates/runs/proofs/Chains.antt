@@ -1,5 +1,5 @@
 -- Chains of calls: made longer at their end, and taken apart after some of the calls. Assumes nothing.
-use Rattle.std.proofs.Common.{◌≡◌, ℕ, zero, suc, ◌+◌, ◌<◌, ◌≤◌, true, false, ◌&&◌, List, [], ◌∷◌, ◌++◌, map, length, get_or, take, drop, set, sym, refl, ap, ◌∙◌, subst, arith}
+use Rattle.std.proofs.Common.{◌≡◌, ℕ, zero, suc, ◌+◌, ◌<◌, ◌≤◌, ◌&&◌, List, [], ◌∷◌, ◌++◌, map, length, get_or, take, drop, set, sym, refl, ap, ◌∙◌, subst, arith}
 use lib.ListN.{get_or-map}
 use Rattle.std.proofs.lemmas.List.{take_more, take_more_set, length-map, map-set, set-get_or}
 use Rattle.elements.specs.Algebra.{Algebra, Laws}
@@ -7,8 +7,8 @@ use Rattle.evaluation.specs.Law.{Shows}
 use Rattle.indices.specs.Places.{pick, has, within}
 use Rattle.sheets.specs.Sheets.{Contents}
 use Rattle.sheets.specs.Terms.{Judged}
-use Rattle.stores.specs.Meaning.{Meaning, Lawful, in_shape}
-use Rattle.runs.specs.Agreement.{Point, opening, Moves, Chain, end, call, Stands, Always, Midway, Alike, Agreement}
+use Rattle.stores.specs.Meaning.{Meaning, Lawful}
+use Rattle.runs.specs.Agreement.{Point, opening, Moves, Chain, end, call, Alike, Agreement}
 use Rattle.runs.specs.Plain.{Call, Reply}
 use Rattle.runs.proofs.Standing.{always}
 

@@ -1,6 +1,6 @@
 -- Runs that are opened: the store has the sheet's shapes. Assumes nothing.
-use Rattle.std.proofs.Common.{◌≡◌, ℕ, List, Some, None, Option, sym, refl, ap, ◌∙◌, arith}
-use Rattle.refusals.specs.Refusals.{Answer, done, refused}
+use Rattle.std.proofs.Common.{◌≡◌, ℕ, List, Some, None, Option, refl, arith}
+use Rattle.refusals.specs.Refusals.{done}
 use Rattle.sheets.specs.Sheets.{Contents}
 use Rattle.stores.specs.Matching.{difference}
 use Rattle.stores.proofs.Compared.{difference_none}

@@ -1,8 +1,8 @@
 -- Every chain of calls stands: it replies and holds as plain evaluation does, and its padded places are zero. Assumes nothing.
-use Rattle.std.proofs.Common.{◌≡◌, ℕ, zero, suc, ◌+◌, ◌<◌, ◌≤◌, Bool, true, false, cond, ◌&&◌, eqb, leb, List, [], ◌∷◌, length, take, drop, sym, refl, ap, ◌∙◌, subst, arith}
+use Rattle.std.proofs.Common.{◌≡◌, ℕ, ◌≤◌, Bool, true, false, cond, ◌&&◌, eqb, leb, List, length, sym, refl, ap, ◌∙◌, subst, arith}
 use Rattle.std.proofs.lemmas.Bool.{and_parts, and_from, le-leb, eqb-true, both_ways}
 use Rattle.elements.specs.Algebra.{Algebra, Laws}
-use Rattle.evaluation.specs.Law.{Shows, Law}
+use Rattle.evaluation.specs.Law.{Shows}
 use Rattle.evaluation.specs.Tray.{statement_of, target}
 use Rattle.evaluation.specs.Value.{spans, value}
 use Rattle.evaluation.proofs.Padded.{padding_law}
@@ -10,14 +10,14 @@ use Rattle.evaluation.proofs.Spans.{shape_reached}
 use Rattle.evaluation.proofs.Targets.{target_typed, target_reach}
 use Rattle.indices.specs.Dimensions.{same}
 use Rattle.indices.specs.Places.{pick, has, within}
-use Rattle.refusals.specs.Refusals.{Answer, done, refused, and_then}
+use Rattle.refusals.specs.Refusals.{done, refused, and_then}
 use Rattle.indices.proofs.Equal.{same_equal}
 use Rattle.sheets.specs.Language.{Expr, of_variable}
 use Rattle.sheets.specs.Sheets.{Contents}
 use Rattle.sheets.specs.Terms.{expression_of, Judged}
 use Rattle.stores.specs.Meaning.{Meaning, Lawful, in_shape, in_reach}
-use Rattle.runs.specs.Agreement.{Point, state_of, opening, Moved, Moves, Chain, end, call, Stands, Always, Midway, Alike}
-use Rattle.runs.specs.Plain.{Call, fetch, put, step, rewind, Reply, element, State, in_sheet, works, put_at, stepped, rewound, reply, after, replies, afters}
+use Rattle.runs.specs.Agreement.{Point, state_of, Moved, Moves, Chain, end, call, Always}
+use Rattle.runs.specs.Plain.{Call, fetch, put, step, rewind, Reply, element, State, in_sheet, works, put_at, stepped, reply, after, replies, afters}
 
 module _ {E : Type 0} (a : Algebra E) (laws : Laws a) (c : Contents) (judged : Judged c) where
   -- a point of a run, and the plain state that it shows

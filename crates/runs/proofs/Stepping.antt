@@ -1,6 +1,6 @@
 -- A step: what is worked out, what is written, and what that leaves. Assumes nothing.
 use Rattle.std.proofs.Common.{◌≡◌, ℕ, zero, suc, ◌+◌, ◌<◌, ◌≤◌, Bool, true, false, cond, ◌&&◌, eqb, leb, List, [], ◌∷◌, ◌++◌, length, get_or, drop, None, sym, refl, ap, ◌∙◌, subst, arith}
-use Rattle.std.proofs.lemmas.Bool.{and_parts, and_from, le-leb, leb-false, cond-true, cond-false, eqb-true, eq-eqb, both_ways}
+use Rattle.std.proofs.lemmas.Bool.{and_parts, and_from, le-leb, cond-true, cond-false, eqb-true, eq-eqb, both_ways}
 use Rattle.elements.specs.Algebra.{Algebra, Laws}
 use Rattle.evaluation.specs.Tray.{counted, statement_of, target, roomy, worked}
 use Rattle.evaluation.specs.Value.{agrees, fits, node_value}
@@ -8,7 +8,7 @@ use Rattle.evaluation.proofs.Padded.{padding_law}
 use Rattle.evaluation.proofs.Targets.{target_known, target_typed, target_reach}
 use Rattle.indices.specs.Dimensions.{same}
 use Rattle.indices.specs.Places.{pick, has, within, product, place, unplace}
-use Rattle.refusals.specs.Refusals.{Answer, done, refused}
+use Rattle.refusals.specs.Refusals.{done, refused}
 use Rattle.indices.proofs.Equal.{same_self}
 use Rattle.shapes.proofs.Numbering.{place_lt, unplace_place}
 use Rattle.sheets.specs.Sheets.{Contents}

@@ -8,7 +8,7 @@
 --   reply, after     the answer to any call, and the state after it; contractions go up to the given extents of the variables
 --   replies, afters  the same of a list of calls
 --   plain_replies, plain_after   plain evaluation: contractions go up to the extents, from the first statement on
-use Rattle.std.specs.Prelude.{◌≡◌, ℕ, ◌+◌, Bool, true, false, cond, ◌&&◌, List, [], ◌∷◌, length, ◌==◌, nat_le}
+use Rattle.std.specs.Prelude.{ℕ, ◌+◌, Bool, cond, ◌&&◌, List, [], ◌∷◌, length, ◌==◌, nat_le}
 use Rattle.elements.specs.Algebra.{Algebra}
 use Rattle.evaluation.specs.Tray.{statement_of}
 use Rattle.evaluation.specs.Value.{value}

@@ -1,5 +1,5 @@
 -- What an answer tells of the question behind it. Assumes nothing.
-use Rattle.std.proofs.Common.{◌≡◌, ℕ, Bool, true, false, cond, List, Some, None, Option, sym, refl, ap, ◌∙◌, arith}
+use Rattle.std.proofs.Common.{◌≡◌, ℕ, Bool, true, false, cond, Some, None, Option, refl, arith}
 use Rattle.refusals.specs.Refusals.{Answer, done, refused}
 
 module _ {X : Type 0} where

@@ -1,10 +1,10 @@
 -- Tables of shapes, and the numbers of places through all their variables. Assumes nothing.
-use Rattle.std.proofs.Common.{◌≡◌, ℕ, zero, suc, ◌+◌, ◌-◌, ◌*◌, ◌<◌, ◌≤◌, Bool, true, false, cond, ◌&&◌, leb, ◌⊎◌, List, [], ◌∷◌, ◌++◌, map, length, get_or, take, set, sym, refl, ap, ◌∙◌, subst, ⊎_elim, add-one, arith}
+use Rattle.std.proofs.Common.{◌≡◌, ℕ, zero, suc, ◌+◌, ◌-◌, ◌<◌, ◌≤◌, Bool, true, false, cond, ◌&&◌, leb, ◌⊎◌, List, [], ◌∷◌, ◌++◌, map, length, get_or, take, set, sym, refl, ap, ◌∙◌, subst, ⊎_elim, add-one, arith}
 use Rattle.std.proofs.lemmas.Bool.{and_parts, and_from, and_left, and_right, leb-true, le-leb, lt-leb, cond-true, cases_order}
 use Rattle.std.proofs.lemmas.List.{get_or-map, get_or-take, length-map, length-take-le, map_push, take_more_set}
 use Rattle.shapes.specs.declared.shape.Shape.{Shape}
 use Rattle.shapes.specs.declared.table.Table.{Table}
-use Rattle.indices.specs.Places.{within, product, place, total, start, cell, proper, pick, at1, has}
+use Rattle.indices.specs.Places.{within, product, total, cell, proper, pick, at1, has}
 use Rattle.refusals.specs.Refusals.{done, refused}
 use Rattle.shapes.specs.Shapes.{extents_of, shapes_of, shape_answer, extent_answer, place_answer}
 use Rattle.shapes.proofs.Numbering.{place_lt, place_same}

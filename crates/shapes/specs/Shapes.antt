@@ -8,7 +8,7 @@
 --   index_in        the index of a row-major number, if the shape has as many places
 --   shape_answer, rank_answer, extent_answer   a variable's shape, rank and extent; refusal 1 where there is none
 --   place_answer    the number of a place through all variables; refusals 1, and 2 where it does not lie in the shape
-use Rattle.std.specs.Prelude.{ℕ, ◌+◌, Bool, true, false, cond, ◌&&◌, List, [], ◌∷◌, map, length, take, drop, Some, None, Option, ◌==◌, nat_le, nat_lt}
+use Rattle.std.specs.Prelude.{ℕ, ◌+◌, Bool, true, cond, ◌&&◌, List, [], ◌∷◌, map, length, take, drop, Some, None, Option, ◌==◌, nat_le, nat_lt}
 use Rattle.shapes.specs.declared.declaration.Declaration.{Declaration}
 use Rattle.shapes.specs.declared.shape.Shape.{Shape}
 use Rattle.shapes.specs.declared.table.Table.{Table}

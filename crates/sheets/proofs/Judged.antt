@@ -10,7 +10,7 @@ use Rattle.sheets.specs.declared.form.Form.TheVariants.{Variable, Outer, Sum, Di
 use Rattle.sheets.specs.declared.node.Node.{Node}
 use Rattle.sheets.specs.Forms.{form_of, tidy}
 use Rattle.sheets.specs.Rules.{info_at, earlier}
-use Rattle.sheets.specs.Language.{Expr, Operation, plus, minus, times, over, variable, outer, pointwise, turned, contracted, Typed, depth, nesting, of_one, of_two, formed, formed_as, expr_at, exprs_from, expr_of, operand, blank}
+use Rattle.sheets.specs.Language.{Expr, plus, minus, times, over, variable, outer, pointwise, turned, contracted, Typed, depth, nesting, of_one, of_two, formed, formed_as, expr_at, exprs_from, expr_of, operand, blank}
 use Rattle.sheets.specs.Sheets.{Contents, contents}
 use Rattle.sheets.specs.Terms.{known, expression_of, node_there, no_node, node_at, term_as, term_of, Unfolds, NodeMeans, StatementMeans, Judged}
 use Rattle.sheets.specs.Verdict.{infos_from, statements_from, tables}

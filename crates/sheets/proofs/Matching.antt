@@ -3,7 +3,7 @@ use Rattle.std.proofs.Common.{◌≡◌, ℕ, ◌+◌, ◌<◌, ◌≤◌, Bool,
 use Rattle.std.proofs.lemmas.List.{get_or_append_left, get_or_push, length_push, nil_from_length}
 use Rattle.std.proofs.lemmas.Bool.{and_parts, and_from, leb-true, le-leb, ltb-true, eqb-true, eq-eqb, cond-true, cases_lt, false≢true}
 use Rattle.indices.specs.Dimensions.{same, two_of, exchanged, removed}
-use Rattle.indices.specs.Places.{pick, at1, has}
+use Rattle.indices.specs.Places.{pick, at1}
 use Rattle.refusals.specs.Refusals.{done, refused}
 use Rattle.indices.proofs.Equal.{same_equal, same_self}
 use Rattle.sheets.specs.declared.form.Form.{Form}
@@ -11,7 +11,7 @@ use Rattle.sheets.specs.declared.form.Form.TheVariants.{Variable, Outer, Sum, Di
 use Rattle.sheets.specs.declared.node.Node.{Node}
 use Rattle.sheets.specs.Forms.{tidy}
 use Rattle.sheets.specs.Rules.{Info, nothing, info_at, earlier, present, larger, above, paired, scalar, scaled, divided, ruled, bounded, bounded_answer, form_answer}
-use Rattle.sheets.specs.Language.{Expr, Operation, plus, minus, times, over, Typed, variable, outer, pointwise, turned, contracted, of_variable, of_outer_product, element_by_element, scalar_times, divided_by_scalar, of_transposition, of_contraction, depth, nesting, of_one, of_two, formed, expr_at, operand, formed_as}
+use Rattle.sheets.specs.Language.{Expr, plus, minus, times, over, Typed, variable, outer, pointwise, turned, contracted, of_variable, of_outer_product, element_by_element, scalar_times, divided_by_scalar, of_transposition, of_contraction, depth, nesting, of_one, of_two, formed, expr_at, operand, formed_as}
 use Rattle.sheets.proofs.Typing.{same_type, variable_type, outer_types, plus_types, minus_types, times_types, over_types, turned_type, contracted_type}
 
 -- what is known of a node is true of its expression

@@ -2,7 +2,7 @@
 use Rattle.std.proofs.Common.{◌≡◌, ℕ, true, ◌⊎◌, List, [], ◌++◌, length, refl, ap, inl, inr}
 use Rattle.indices.specs.Dimensions.{two_of, exchanged, removed}
 use Rattle.indices.specs.Places.{pick, at1, has}
-use Rattle.sheets.specs.Language.{Expr, Operation, plus, minus, times, over, Typed, variable, outer, pointwise, turned, contracted, of_variable, of_outer_product, element_by_element, scalar_times, divided_by_scalar, of_transposition, of_contraction}
+use Rattle.sheets.specs.Language.{Expr, plus, minus, times, over, Typed, variable, outer, pointwise, turned, contracted, of_variable, of_outer_product, element_by_element, scalar_times, divided_by_scalar, of_transposition, of_contraction}
 
 module _ {ss : List (List ℕ)} where
   pub same_type : {e : Expr} {s t : List ℕ} → Typed ss e s → Typed ss e t → s ≡ t

@@ -6,11 +6,11 @@
 --   expr_of        the expression that node k unfolds to, if its kind, its unused fields and its operands allow one
 --   Meaningful    the bounds hold, and every node and every statement has a type
 --   Means         tables pass exactly where they are meaningful; and a node has at most one type
-use Rattle.std.specs.Prelude.{◌≡◌, ℕ, ◌+◌, ◌≤◌, Bool, true, cond, ◌&&◌, List, [], ◌∷◌, ◌++◌, length, Some, None, Option, slice_index_or}
+use Rattle.std.specs.Prelude.{◌≡◌, ℕ, ◌+◌, ◌≤◌, Bool, true, cond, List, [], ◌∷◌, ◌++◌, length, Some, None, Option, slice_index_or}
 use Rattle.shapes.specs.declared.declaration.Declaration.{Declaration}
 use Rattle.indices.specs.Dimensions.{two_of, exchanged, removed}
 use Rattle.indices.specs.Places.{pick, at1, has}
-use Rattle.refusals.specs.Refusals.{Answer, done}
+use Rattle.refusals.specs.Refusals.{done}
 use Rattle.shapes.specs.Shapes.{declared}
 use Rattle.sheets.specs.declared.form.Form.{Form}
 use Rattle.sheets.specs.declared.form.Form.TheVariants.{Variable, Outer, Sum, Difference, Product, Quotient, Transposition, Contraction}

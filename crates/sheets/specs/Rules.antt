@@ -6,7 +6,7 @@
 --   ruled      question 15: what the form's rule gives
 --   bounded    question 16: rank at most 8, depth at most 16, nesting at most 3
 --   node_answer the four questions about node k, in order
-use Rattle.std.specs.Prelude.{ℕ, ◌+◌, Bool, true, false, cond, ◌&&◌, List, [], ◌∷◌, ◌++◌, length, Some, None, Option, ◌==◌, nat_le, nat_lt, slice_index_or}
+use Rattle.std.specs.Prelude.{ℕ, ◌+◌, Bool, cond, ◌&&◌, List, [], ◌∷◌, ◌++◌, length, Some, None, Option, ◌==◌, nat_le, nat_lt, slice_index_or}
 use Rattle.indices.specs.Dimensions.{same, two_of, exchanged, removed}
 use Rattle.indices.specs.Places.{pick, at1, has}
 use Rattle.refusals.specs.Refusals.{Answer, done, refused}

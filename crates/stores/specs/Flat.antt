@@ -1,16 +1,16 @@
 -- Elements in a list, variable after variable: a lawful meaning, read and written. Assumes nothing.
-use Rattle.std.specs.Prelude.{◌≡◌, ℕ, ◌<◌, ◌≤◌, Bool, true, false, cond, ◌&&◌, ◌||◌, List, [], ◌∷◌, length, slice_index_or, slice_set, refl}
-use Rattle.std.proofs.Common.{sym, ap, ◌∙◌, arith}
-use Rattle.std.proofs.lemmas.Bool.{and_parts, and_from, both_ways, or_left, cond-true, cond-false}
+use Rattle.std.specs.Prelude.{◌≡◌, ℕ, ◌≤◌, Bool, true, false, cond, ◌||◌, List, [], ◌∷◌, length, slice_index_or, slice_set, refl}
+use Rattle.std.proofs.Common.{arith}
+use Rattle.std.proofs.lemmas.Bool.{and_parts, both_ways}
 use Rattle.std.proofs.lemmas.List.{get_or-set_same, get_or-set_other}
 use Rattle.elements.specs.Algebra.{Algebra, is_zero}
 use Rattle.shapes.specs.declared.table.Table.{Table}
-use Rattle.indices.specs.Places.{within, place, pick, has, total, each, cell}
-use Rattle.refusals.specs.Refusals.{Answer, done, refused, and_then}
+use Rattle.indices.specs.Places.{within, pick, has, total, each, cell}
+use Rattle.refusals.specs.Refusals.{done, refused, and_then}
 use Rattle.shapes.specs.Shapes.{shapes_of, place_answer}
 use Rattle.shapes.proofs.Extents.{proper_parts, each_parts}
 use Rattle.shapes.proofs.Tables.{shapes_length, proper_pick, cell_lt, cell_other}
-use Rattle.stores.specs.Meaning.{Meaning, Lawful, Covers, Written, read_answer, write_answer, in_reach, in_shape}
+use Rattle.stores.specs.Meaning.{Lawful, Covers, Written, read_answer, write_answer, in_shape}
 use Rattle.stores.specs.Cells.{flat}
 
 -- every shape covers itself

@@ -1,10 +1,9 @@
-use Rattle.std.proofs.Common.{◌≡◌, length, take, drop, sym, refl, ap, ◌∙◌, subst}
+use Rattle.std.proofs.Common.{◌≡◌, length, take, drop, ap, ◌∙◌, subst}
 use Rattle.indices.specs.Coordinates.{coordinates}
 use Rattle.sheets.specs.Rules.{info_at}
 use Rattle.sheets.specs.Sheets.{contents}
 use Rattle.sheets.specs.Terms.{UnfoldsTo}
 use Rattle.evaluation.specs.Machine.{setting, stack_of, goes}
-use Rattle.evaluation.specs.Value.{seen}
 use Rattle.evaluation.proofs.Spans.{seen_alike}
 use Rattle.evaluation.proofs.Steps.{rank_at, variable_reached, down_variable, outer_forks, pointwise_forks, fork_room, down_fork, turned_fits, down_turned, sum_there, sum_dimension, sum_extendable, sum_room, down_sum}
 use Rattle.evaluation.proofs.Working.{works}

@@ -1,4 +1,4 @@
-use Rattle.std.proofs.Common.{◌≡◌, ◌∷◌, sym, ap, ◌∙◌, subst}
+use Rattle.std.proofs.Common.{sym, ap, ◌∙◌, subst}
 use Rattle.sheets.specs.Sheets.{contents}
 use Rattle.evaluation.specs.declared.frame.Focus.TheVariants.{Up}
 use Rattle.evaluation.specs.Machine.{setting, stack_of, Sound, Stepped, whole}

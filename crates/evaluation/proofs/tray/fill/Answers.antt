@@ -1,4 +1,4 @@
-use Rattle.std.proofs.Common.{◌≡◌, true, ltb, sym, ap, ◌∙◌, subst}
+use Rattle.std.proofs.Common.{◌≡◌, ltb, ap, ◌∙◌}
 use Rattle.indices.specs.Places.{within, product, unplace}
 use Rattle.shapes.specs.Shapes.{extents_of}
 use Rattle.indices.specs.Coordinates.{coordinates}

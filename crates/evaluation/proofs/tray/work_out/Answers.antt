@@ -1,4 +1,4 @@
-use Rattle.std.proofs.Common.{◌≡◌, true, ◌&&◌, leb, ◌++◌, length, drop, Some, None, sym, refl, ap, ◌∙◌, subst, arith}
+use Rattle.std.proofs.Common.{◌≡◌, true, ◌&&◌, leb, ◌++◌, length, drop, Some, None, sym, refl, ap, ◌∙◌, arith}
 use Rattle.std.proofs.lemmas.Bool.{and_from, le-leb, both_ways}
 use Rattle.indices.specs.Places.{has, pick, product, unplace}
 use Rattle.shapes.specs.Shapes.{extents_of}

@@ -1,9 +1,6 @@
-use Rattle.std.proofs.Common.{◌≡◌, ◌+◌, ◌≤◌, [], ◌∷◌, sym, ap, ◌∙◌, arith}
-use Rattle.refusals.specs.Refusals.{done}
+use Rattle.std.proofs.Common.{◌+◌, [], ◌∷◌, sym, ap, ◌∙◌, arith}
 use Rattle.shapes.proofs.Asked.{never_refused, done_same}
-use Rattle.stores.specs.Meaning.{read_answer}
 use Rattle.fourpiles.proofs.Products.{reads, total_more}
-use Rattle.fourpiles.proofs.product.entry.Given as given
 use Rattle.fourpiles.proofs.product.entry.Goals as goal
 
 pub returns-in_err-x : goal.returns-in_err-x

@@ -1,4 +1,4 @@
-use Rattle.std.proofs.Common.{◌≡◌, ℕ, subst}
+use Rattle.std.proofs.Common.{subst}
 use Rattle.fourpiles.specs.Product.{Sides}
 use Rattle.fourpiles.proofs.product.plan.Goals as goal
 

@@ -1,8 +1,6 @@
-use Rattle.std.proofs.Common.{◌≡◌, ◌+◌, ◌≤◌, true, [], ◌∷◌, is_ok, sym, refl, ap, ◌∙◌, subst, arith}
-use Rattle.refusals.specs.Refusals.{done}
+use Rattle.std.proofs.Common.{◌+◌, true, [], ◌∷◌, refl, subst, arith}
 use Rattle.shapes.proofs.Asked.{never_refused, done_same}
 use Rattle.stores.specs.Meaning.{Written}
-use Rattle.fourpiles.specs.Product.{entry}
 use Rattle.fourpiles.proofs.Products.{writes, filled_one, conforms_after, row_more}
 use Rattle.fourpiles.proofs.product.row.Goals as goal
 

@@ -1,7 +1,7 @@
-use Rattle.std.proofs.Common.{◌≡◌, ℕ, ◌+◌, ◌-◌, ◌*◌, ◌<◌, ◌≤◌, List, [], length, get_or, drop, sym, refl, ap, ◌∙◌, arith}
+use Rattle.std.proofs.Common.{◌≡◌, ℕ, ◌+◌, ◌-◌, ◌*◌, ◌<◌, List, [], length, get_or, drop, sym, ap, ◌∙◌, arith}
 use Rattle.std.proofs.lemmas.List.{at_drop_all}
 use Rattle.indices.specs.Places.{product}
-use Rattle.refusals.specs.Refusals.{Answer, done, refused, and_then}
+use Rattle.refusals.specs.Refusals.{and_then}
 use Rattle.shapes.specs.Shapes.{shapes_of, extents_of}
 use Rattle.shapes.proofs.Asked.{never_refused, done_same}
 use Rattle.shapes.proofs.Extents.{proper_parts}

@@ -1,9 +1,7 @@
-use Rattle.std.proofs.Common.{◌≡◌, ◌+◌, ◌-◌, ◌*◌, ◌<◌, ◌≤◌, true, false, [], length, get_or, drop, sym, refl, ap, ◌∙◌, arith}
+use Rattle.std.proofs.Common.{◌+◌, ◌*◌, ◌<◌, [], length, get_or, drop, sym, ap, ◌∙◌, arith}
 use Rattle.std.proofs.lemmas.Bool.{cond-true, cond-false}
 use Rattle.std.proofs.lemmas.List.{at_drop_all}
-use Rattle.indices.specs.Places.{has, pick}
-use Rattle.refusals.specs.Refusals.{done}
-use Rattle.shapes.specs.Shapes.{shapes_of, extents_of}
+use Rattle.shapes.specs.Shapes.{shapes_of}
 use Rattle.shapes.proofs.Asked.{some_since, none_since, never_refused, done_same}
 use Rattle.shapes.proofs.Tables.{shapes_length, shape_next}
 use Rattle.images.specs.Layout.{paired, pairs_from}

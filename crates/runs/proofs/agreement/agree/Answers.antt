@@ -1,4 +1,4 @@
-use Rattle.std.proofs.Common.{◌≡◌, length, sym, refl, ap, ◌∙◌, subst}
+use Rattle.std.proofs.Common.{length, sym, ap, ◌∙◌, subst}
 use Rattle.refusals.specs.Refusals.{and_then}
 use Rattle.sheets.specs.Sheets.{contents}
 use Rattle.sheets.proofs.Judged.{judged}

@@ -1,4 +1,4 @@
-use Rattle.std.proofs.Common.{◌≡◌, true, ◌&&◌, leb, ◌++◌, length, drop, Some, None, sym, refl, ap, ◌∙◌, subst, arith}
+use Rattle.std.proofs.Common.{◌≡◌, true, ◌&&◌, leb, ◌++◌, length, drop, sym, refl, ap, ◌∙◌, subst, arith}
 use Rattle.std.proofs.lemmas.Bool.{cond-true, cond-false, both_ways, true≢false}
 use Rattle.evaluation.specs.Tray.{statement_of, target, roomy, worked}
 use Rattle.evaluation.specs.Value.{fits}

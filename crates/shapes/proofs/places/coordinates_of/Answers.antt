@@ -1,4 +1,4 @@
-use Rattle.std.proofs.Common.{◌≡◌, ℕ, ◌+◌, ◌*◌, ◌/◌, ◌%◌, ◌<◌, ◌≤◌, [], ◌++◌, length, get_or, take, drop, set, sym, ap, ◌∙◌, subst, div-le_self, arith, length-set}
+use Rattle.std.proofs.Common.{◌≡◌, ℕ, ◌+◌, ◌/◌, ◌%◌, ◌++◌, length, get_or, take, drop, set, sym, ap, ◌∙◌, subst, div-le_self, arith, length-set}
 use native.Mathlib.Nat.{mod-le}
 use Rattle.std.proofs.lemmas.List.{drop_all, append-nil}
 use Rattle.indices.specs.Places.{product, unplace}

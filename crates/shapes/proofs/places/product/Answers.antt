@@ -1,4 +1,4 @@
-use Rattle.std.proofs.Common.{◌+◌, ◌*◌, ◌^◌, ◌≤◌, get_or, arith}
+use Rattle.std.proofs.Common.{◌+◌, get_or, arith}
 use Rattle.shapes.proofs.Numbering.{count_more, count_all}
 use Rattle.shapes.proofs.Extents.{each_at, power_more, power_four}
 use Rattle.shapes.proofs.places.product.Goals as goal

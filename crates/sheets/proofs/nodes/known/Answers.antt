@@ -1,6 +1,6 @@
-use Rattle.std.proofs.Common.{◌≡◌, ℕ, ◌-◌, List, [], map, length, sym, ap, ◌∙◌, arith}
+use Rattle.std.proofs.Common.{◌-◌, map, sym, ap, ◌∙◌, arith}
 use Rattle.std.proofs.lemmas.List.{get_or-map, length-map}
-use Rattle.sheets.specs.Rules.{Info, info_of, nothing}
+use Rattle.sheets.specs.Rules.{info_of, nothing}
 use Rattle.sheets.proofs.Infos.{info_at_index, info_none, info_past}
 use Rattle.sheets.proofs.nodes.known.Goals as goal
 use Rattle.sheets.proofs.nodes.known.Goals.{then-j-lt1-via-then-j-lt1, then-j-lt1-via-else-j-lt1+then-j-judged}

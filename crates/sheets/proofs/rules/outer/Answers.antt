@@ -1,4 +1,4 @@
-use Rattle.std.proofs.Common.{◌≡◌, ◌+◌, false, leb, ◌++◌, length, sym, ap, ◌∙◌}
+use Rattle.std.proofs.Common.{◌+◌, leb, ◌++◌, length, sym, ap, ◌∙◌}
 use Rattle.std.proofs.lemmas.List.{length-append}
 use Rattle.std.proofs.lemmas.Bool.{and_left, cond-false}
 use Rattle.indices.specs.Coordinates.{coordinates}

@@ -1,4 +1,4 @@
-use Rattle.std.proofs.Common.{◌≡◌, map, length, take, sym, ap, ◌∙◌}
+use Rattle.std.proofs.Common.{map, length, take, sym, ap, ◌∙◌}
 use Rattle.refusals.specs.Refusals.{done}
 use Rattle.shapes.specs.Shapes.{shapes_of}
 use Rattle.sheets.specs.Rules.{info_of}

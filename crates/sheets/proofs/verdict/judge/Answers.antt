@@ -2,7 +2,7 @@ use Rattle.std.proofs.Common.{◌≡◌, ℕ, true, false, List, sym, refl, ap, 
 use Rattle.std.proofs.lemmas.Bool.{false≢true}
 use Rattle.shapes.proofs.Asked.{never_refused}
 use Rattle.shapes.specs.declared.declaration.Declaration.{Declaration}
-use Rattle.refusals.specs.Refusals.{Answer, done, refused, and_then, number_of, position_of}
+use Rattle.refusals.specs.Refusals.{done, refused, and_then, number_of, position_of}
 use Rattle.shapes.specs.Shapes.{declared}
 use Rattle.sheets.specs.declared.node.Node.{Node}
 use Rattle.sheets.specs.declared.node.Statement.{Statement}

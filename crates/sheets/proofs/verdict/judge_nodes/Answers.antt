@@ -1,6 +1,6 @@
-use Rattle.std.proofs.Common.{◌≡◌, ℕ, ◌+◌, ◌<◌, ◌≤◌, List, [], ◌∷◌, ◌++◌, map, length, get_or, take, drop, set, sym, refl, ap, ◌∙◌, arith}
+use Rattle.std.proofs.Common.{◌≡◌, ℕ, ◌+◌, ◌<◌, List, [], ◌∷◌, ◌++◌, map, length, get_or, take, drop, sym, ap, ◌∙◌, arith}
 use Rattle.std.proofs.lemmas.List.{at_drop_more, at_drop_all, map_push, take_more_set, length-set}
-use Rattle.refusals.specs.Refusals.{Answer, done, refused, and_then}
+use Rattle.refusals.specs.Refusals.{done, and_then}
 use Rattle.shapes.specs.Shapes.{shapes_of}
 use Rattle.sheets.specs.declared.node.Node.{Node}
 use Rattle.sheets.specs.Rules.{Info, info_of, node_answer}

@@ -1,4 +1,4 @@
-use Rattle.std.proofs.Common.{◌≡◌, vec_items, refl, ap, ◌∙◌}
+use Rattle.std.proofs.Common.{vec_items, refl, ap, ◌∙◌}
 use Rattle.shapes.specs.Shapes.{shapes_of}
 use Rattle.images.specs.Image.{image_answer}
 use Rattle.images.proofs.Layouts.{opened_laid}

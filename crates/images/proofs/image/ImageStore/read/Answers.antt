@@ -1,4 +1,4 @@
-use Rattle.std.proofs.Common.{◌≡◌, vec_items, unwrap_or, sym, ap, ◌∙◌, arith}
+use Rattle.std.proofs.Common.{vec_items, unwrap_or, sym, ap, ◌∙◌, arith}
 use Rattle.refusals.specs.Refusals.{done, and_then}
 use Rattle.shapes.specs.Shapes.{shapes_of}
 use Rattle.images.specs.Bytes.{number_at}

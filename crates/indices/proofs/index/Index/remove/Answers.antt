@@ -1,6 +1,5 @@
-use Rattle.std.proofs.Common.{◌≡◌, ◌+◌, ◌-◌, ◌<◌, ◌≤◌, length, take, sym, ap, ◌∙◌, arith, length-set}
+use Rattle.std.proofs.Common.{◌≡◌, ◌+◌, ◌-◌, ◌≤◌, take, sym, ap, ◌∙◌, arith, length-set}
 use Rattle.indices.specs.Dimensions.{remove_at}
-use Rattle.indices.specs.Coordinates.{coordinates}
 use Rattle.indices.proofs.Entries.{entries_length, remove_start, remove_more}
 use Rattle.indices.proofs.index.Index.remove.Goals as goal
 

@@ -1,4 +1,4 @@
-use Rattle.std.proofs.Common.{◌≡◌, ◌-◌, ◌<◌, length, take}
+use Rattle.std.proofs.Common.{◌≡◌, ◌-◌, length, take}
 use Rattle.indices.specs.Dimensions.{remove_at}
 use Rattle.indices.proofs.index.Index.remove.Given as goal
 

@@ -1,4 +1,4 @@
-use Rattle.std.proofs.Common.{◌≡◌, ℕ, ◌-◌, ◌<◌, ◌≤◌, true, false, length, take, drop, sym, ap, ◌∙◌, arith, rules}
+use Rattle.std.proofs.Common.{◌≡◌, ℕ, ◌-◌, ◌≤◌, true, length, take, drop, sym, ap, ◌∙◌, arith, rules}
 use Rattle.std.proofs.lemmas.Bool.{cond-true, cond-false}
 use Rattle.std.proofs.lemmas.List.{take_all, length-drop, length-take}
 use Rattle.indices.specs.Places.{each, proper, product}
@@ -42,10 +42,7 @@ returns-then-product-gt4096 c =
     sym (cond-false (valid d) _ _ (invalid_shape d (improper_many (declared_extents d) (omega (arith, e, c.if-product-gt4096.true)))))
 
 pub invariant_of-result : goal.invariant_of-result
-invariant_of-result c =
-    let d = c.args.declared.now in
-    let l : length d.extents ≡ 4 = search rules in
-    record { whole = l; small = c.if-rank-gt4.false; sound = shape d c.product.result c.if-rank-gt4.false c.if-not-in_range.ensures c.product.ensures c.if-product-gt4096.false }
+invariant_of-result c = record { whole = search rules; small = search rules; sound = search (rules, shape c.args.declared.now) }
 
 pub returns : goal.returns
 returns c =

@@ -1,4 +1,4 @@
-use Rattle.std.proofs.Common.{ltb, sym, ap, ◌∙◌, arith}
+use Rattle.std.proofs.Common.{sym, arith}
 use Rattle.std.proofs.lemmas.Bool.{lt-ltb}
 use Rattle.shapes.proofs.Tables.{shapes_length, shapes_added}
 use Rattle.shapes.proofs.table.Table.add.Goals as goal

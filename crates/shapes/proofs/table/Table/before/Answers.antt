@@ -1,4 +1,4 @@
-use Rattle.std.proofs.Common.{◌≡◌, ◌<◌, length, get_or, sym, ap, ◌∙◌, arith}
+use Rattle.std.proofs.Common.{◌<◌, ap, arith}
 use Rattle.indices.specs.Places.{product}
 use Rattle.shapes.specs.Shapes.{shapes_of, extents_of}
 use Rattle.shapes.proofs.Extents.{proper_parts}

@@ -1,10 +1,9 @@
-use Rattle.std.proofs.Common.{◌≡◌, ℕ, ◌+◌, ◌<◌, ◌≤◌, Bool, true, false, cond, ltb, leb, List, [], ◌∷◌, ◌++◌, map, length, get_or, take, drop, sym, refl, ap, ◌∙◌, arith}
+use Rattle.std.proofs.Common.{◌≡◌, ℕ, ◌+◌, ◌<◌, ◌≤◌, true, cond, ltb, leb, List, [], ◌∷◌, ◌++◌, map, length, get_or, take, drop, sym, ap, ◌∙◌, arith}
 use Rattle.std.proofs.lemmas.Bool.{cond-true, cond-false, le-leb, lt-ltb}
 use Rattle.std.proofs.lemmas.List.{at_drop_more, at_drop_all, map_more, length-map, length-take-le, take_all}
-use Rattle.refusals.specs.Refusals.{Answer, done, refused}
+use Rattle.refusals.specs.Refusals.{done, refused}
 use Rattle.shapes.specs.Shapes.{extents_of, shapes_of, declared, judged, valid, declared_extents}
 use Rattle.shapes.specs.declared.declaration.Declaration.{Declaration}
-use Rattle.shapes.specs.declared.table.Table.{Table}
 use Rattle.shapes.proofs.Asked.{some_since, none_since}
 use Rattle.shapes.proofs.table.Table.of.Goals as goal
 

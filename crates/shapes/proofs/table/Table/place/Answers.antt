@@ -1,9 +1,7 @@
-use Rattle.std.proofs.Common.{◌≡◌, ◌<◌, ◌≤◌, true, length, sym, refl, ap, ◌∙◌, arith}
-use Rattle.std.proofs.lemmas.Bool.{cond-true, cond-false}
-use Rattle.indices.specs.Places.{has, pick, within, place, start}
-use Rattle.refusals.specs.Refusals.{done, refused}
-use Rattle.shapes.specs.Shapes.{shapes_of, extents_of, place_answer}
-use Rattle.shapes.proofs.Asked.{some_since, none_since, done_since}
+use Rattle.std.proofs.Common.{length, arith}
+use Rattle.indices.specs.Places.{has, pick, within, place}
+use Rattle.shapes.specs.Shapes.{shapes_of, extents_of}
+use Rattle.shapes.proofs.Asked.{some_since, done_since}
 use Rattle.shapes.proofs.Extents.{proper_parts}
 use Rattle.shapes.proofs.Numbering.{place_lt}
 use Rattle.shapes.proofs.Tables.{shapes_length, counted_parts}

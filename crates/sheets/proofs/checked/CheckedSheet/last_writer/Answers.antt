@@ -1,4 +1,4 @@
-use Rattle.std.proofs.Common.{◌≡◌, ℕ, ◌+◌, ◌-◌, true, false, ◌&&◌, leb, List, length, take, is_err, Ok, Err, Result, sym, refl, ap, ◌∙◌, subst, arith}
+use Rattle.std.proofs.Common.{◌≡◌, ℕ, ◌+◌, ◌-◌, true, false, ◌&&◌, leb, List, length, take, is_err, Ok, Err, Result, sym, subst, arith}
 use Rattle.std.proofs.lemmas.List.{length-take-le}
 use Rattle.std.proofs.lemmas.Bool.{and_from, cond-true, false≢true}
 use Rattle.shapes.proofs.Asked.{done_since}
@@ -6,7 +6,7 @@ use Rattle.shapes.proofs.Tables.{counted}
 use Rattle.refusals.specs.declared.refusal.Refusal.{Refusal}
 use Rattle.shapes.specs.declared.shape.Shape.{Shape}
 use Rattle.indices.specs.Places.{has, pick}
-use Rattle.refusals.specs.Refusals.{answer, done, refused}
+use Rattle.refusals.specs.Refusals.{answer}
 use Rattle.shapes.specs.Shapes.{extents_of, shapes_of, shape_answer}
 use Rattle.sheets.specs.Writers.{Writer}
 use Rattle.sheets.proofs.Writing.{moved, before}

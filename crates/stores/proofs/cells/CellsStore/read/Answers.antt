@@ -1,7 +1,7 @@
-use Rattle.std.proofs.Common.{◌≡◌, ◌<◌, length, get_or, vec_items, vec_len, sym, ap, ◌∙◌, arith}
+use Rattle.std.proofs.Common.{◌<◌, length, get_or, vec_items, sym, ap, ◌∙◌, arith}
 use Rattle.std.proofs.lemmas.List.{get_or_read}
-use Rattle.refusals.specs.Refusals.{Answer, done, and_then}
-use Rattle.shapes.specs.Shapes.{shapes_of, place_answer}
+use Rattle.refusals.specs.Refusals.{done, and_then}
+use Rattle.shapes.specs.Shapes.{shapes_of}
 use Rattle.shapes.proofs.Tables.{placed, cell_lt}
 use Rattle.stores.specs.Flat.{flat_read}
 use Rattle.stores.proofs.cells.CellsStore.read.Goals as goal

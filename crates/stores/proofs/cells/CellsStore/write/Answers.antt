@@ -1,8 +1,8 @@
-use Rattle.std.proofs.Common.{◌≡◌, ℕ, ◌<◌, ◌≤◌, true, false, length, get_or, set, vec_items, vec_len, sym, refl, ap, ◌∙◌, subst, arith, rules}
+use Rattle.std.proofs.Common.{◌≤◌, true, length, set, vec_items, sym, refl, ap, ◌∙◌, subst, arith}
 use Rattle.std.proofs.lemmas.Bool.{both_ways}
-use Rattle.indices.specs.Places.{cell, total}
-use Rattle.refusals.specs.Refusals.{Answer, done, and_then}
-use Rattle.shapes.specs.Shapes.{shapes_of, place_answer}
+use Rattle.indices.specs.Places.{total}
+use Rattle.refusals.specs.Refusals.{done, and_then}
+use Rattle.shapes.specs.Shapes.{shapes_of}
 use Rattle.shapes.proofs.Tables.{placed, cell_lt}
 use Rattle.stores.specs.Cells.{flat}
 use Rattle.stores.specs.Meaning.{Written}
