@@ -1,8 +1,8 @@
 -- The kind that an arithmetic of defined values makes, with one rule for zero and for undefined operands.
---   element     the element that an operation's result is
---   null        whether an element is the zero
---   strict      an operation that is undefined where an operand is
---   text        what is written for an element, by what is written for a defined value
+--   element      the element that an operation's result is
+--   null         whether an element is the zero
+--   strict       an operation that is undefined where an operand is
+--   text         what is written for an element, by what is written for a defined value
 --   algebra_of   the kind: zero times anything, anything times zero and zero divided by anything are zero, all else is strict
 use Rattle.std.specs.Prelude.{ℕ, Bool, false, cond, ◌||◌, List, Some, None, codes, Option, ◌==◌}
 use Rattle.elements.specs.declared.element.Element.{Element}

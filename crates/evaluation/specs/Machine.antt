@@ -1,18 +1,18 @@
 -- The evaluation of a node by a loop over a stack: what it means, what it keeps, and how much is left.
---   Setting     what an evaluation reads and never changes: the kind, the store's meaning and the sheet
---   decoded     the value that a code stands for
---   worth       the value of node k at an index
---   goes        how far the dimensions of node k go
+--   Setting      what an evaluation reads and never changes: the kind, the store's meaning and the sheet
+--   decoded      the value that a code stands for
+--   worth        the value of node k at an index
+--   goes         how far the dimensions of node k go
 --   stack_of     the frames of a stack, the last one first
---   Runs        node k may be worked out at an index above so many frames
---   onward      further values added on the right
---   plug        what the frames make of a value
---   work, rest  the turns that an expression takes, and those that frames still take
---   Framed      what holds of the frames
---   Sound       what holds of frames and focus
---   Stepped     one turn: what holds still holds, the whole has the same value, and less is left
---   Room        what a frame needs to be resumed
---   Resumed     what a frame makes of the value that it waited for
+--   Runs         node k may be worked out at an index above so many frames
+--   onward       further values added on the right
+--   plug         what the frames make of a value
+--   work, rest   the turns that an expression takes, and those that frames still take
+--   Framed       what holds of the frames
+--   Sound        what holds of frames and focus
+--   Stepped      one turn: what holds still holds, the whole has the same value, and less is left
+--   Room         what a frame needs to be resumed
+--   Resumed      what a frame makes of the value that it waited for
 use Rattle.std.specs.Prelude.{◌≡◌, ℕ, zero, suc, ◌+◌, ◌-◌, ◌*◌, ◌<◌, ◌≤◌, Bool, true, ◌&&◌, List, [], ◌∷◌, length, Some, None, Option, nat_le, slice_index_or}
 use Rattle.elements.specs.Algebra.{Algebra, Laws}
 use Rattle.indices.specs.declared.index.Index.{Index}

@@ -1,8 +1,8 @@
 -- Where the dimensions of a node come from.
---   Comes    a dimension goes as far as one of another list, which is there
---   Ranked   the dimensions of every node are as many as the verdict found
---   Traced   dimension d of node k goes as far as the one that it comes from, whatever the extents of the variables
---   Follows  dimension e of node k, which is there, goes as far as dimension d of node n
+--   Comes     a dimension goes as far as one of another list, which is there
+--   Ranked    the dimensions of every node are as many as the verdict found
+--   Traced    dimension d of node k goes as far as the one that it comes from, whatever the extents of the variables
+--   Follows   dimension e of node k, which is there, goes as far as dimension d of node n
 use Rattle.std.specs.Prelude.{◌≡◌, ℕ, ◌≤◌, true, List, length}
 use Rattle.indices.specs.Places.{pick, at1, has}
 use Rattle.sheets.specs.Rules.{earlier, info_at}

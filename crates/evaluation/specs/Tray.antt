@@ -1,10 +1,10 @@
 -- A statement worked out into a tray: the value of its node at every place in reach of its variable.
---   counted      the values of a function at n, n + 1 and so on, so many of them
---   statement_of  statement s of a sheet, from 1
---   roomy        there is such a statement, and a tray of so many elements has room for its variable's places
---   worked       the values, the last coordinate running fastest
---   tray_answer   how many they are, if store and sheet have the same shapes, the statement is there and the tray has room
---   tray_after    what the tray holds then; beyond the values it is as it was
+--   counted        the values of a function at n, n + 1 and so on, so many of them
+--   statement_of   statement s of a sheet, from 1
+--   roomy          there is such a statement, and a tray of so many elements has room for its variable's places
+--   worked         the values, the last coordinate running fastest
+--   tray_answer    how many they are, if store and sheet have the same shapes, the statement is there and the tray has room
+--   tray_after     what the tray holds then; beyond the values it is as it was
 use Rattle.std.specs.Prelude.{ℕ, zero, suc, ◌+◌, Bool, cond, ◌&&◌, List, [], ◌∷◌, ◌++◌, length, drop, Some, None, Option, nat_le, slice_index_or}
 use Rattle.elements.specs.Algebra.{Algebra}
 use Rattle.indices.specs.Places.{pick, product, unplace}

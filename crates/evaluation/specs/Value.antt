@@ -1,14 +1,14 @@
 -- The value of an expression at an index: once, for every kind of element, every store and every limit.
---   applied      what an operation makes of two elements
---   spans        how far each dimension of an expression goes, where those of the variables go so far: taken from the
---                variable, joined, exchanged, dropped
---   seen         where an operand of an operation element by element is taken: a scalar at the empty index
---   value        the value of an expression at an index; a contraction goes as far as its operand's dimension does
---   node_reach    how far each dimension of a node goes over a store
---   node_value    the value of a node over a store; contractions go up to the rounded extents
---   plain_value   its plain value, over any elements; contractions go up to the extents
---   fits         store and sheet have the same shapes
---   value_answer  the value of a node at an index, if store and sheet have the same shapes and the index is in reach
+--   applied        what an operation makes of two elements
+--   spans          how far each dimension of an expression goes, where those of the variables go so far: taken from the
+--                  variable, joined, exchanged, dropped
+--   seen           where an operand of an operation element by element is taken: a scalar at the empty index
+--   value          the value of an expression at an index; a contraction goes as far as its operand's dimension does
+--   node_reach     how far each dimension of a node goes over a store
+--   node_value     the value of a node over a store; contractions go up to the rounded extents
+--   plain_value    its plain value, over any elements; contractions go up to the extents
+--   fits           store and sheet have the same shapes
+--   value_answer   the value of a node at an index, if store and sheet have the same shapes and the index is in reach
 use Rattle.std.specs.Prelude.{ℕ, Bool, true, false, cond, ◌&&◌, List, [], ◌∷◌, ◌++◌, length, take, drop, Some, None, Option}
 use Rattle.elements.specs.Algebra.{Algebra, total}
 use Rattle.indices.specs.Dimensions.{exchanged, removed, inserted}

@@ -1,8 +1,8 @@
 -- The product of two tables that stand in one store.
---   Sides      variable v is a table of this height and width
---   Conforms   the shapes of a store are those that a plan says, and the result is neither of the factors
---   entry      an entry of the product: products of a row and a column, added up on the right from zero
---   Filled     some entries of the product stand in the result, and nothing else has changed
+--   Sides             variable v is a table of this height and width
+--   Conforms          the shapes of a store are those that a plan says, and the result is neither of the factors
+--   entry             an entry of the product: products of a row and a column, added up on the right from zero
+--   Filled            some entries of the product stand in the result, and nothing else has changed
 --   in_row, in_rows   the places of one row; of the first rows
 use Rattle.std.specs.Prelude.{◌≡◌, ℕ, ◌≤◌, true, List, [], ◌∷◌, ◌≢◌}
 use Rattle.elements.specs.Algebra.{Algebra, total}

@@ -1,8 +1,8 @@
--- Numbers as big_endian bytes.
+-- Numbers as big-endian bytes.
 --   number      the number that bytes stand for
 --   bytes       a number as so many bytes
 --   part        so many bytes from an offset on
---   number_at    the number that stands there
+--   number_at   the number that stands there
 --   patched     a buffer with other bytes from an offset on, everything else as it was
 use Rattle.std.specs.Prelude.{ℕ, zero, suc, ◌+◌, ◌*◌, ◌/◌, ◌%◌, ◌^◌, List, [], ◌∷◌, ◌++◌, length, take, drop}
 

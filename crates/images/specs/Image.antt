@@ -1,5 +1,5 @@
 -- Images: what they mean, and what opening answers.
---   imaged        the meaning: at each place the element whose code stands there; a rounded extent is the extent
+--   imaged         the meaning: at each place the element whose code stands there; a rounded extent is the extent
 --   image_answer   what opening answers: refusals 4, 6, 7 and 8
 --   spot_answer    where the cell of a place begins; refusals 1, and 2 where the place does not lie in the shape
 use Rattle.std.specs.Prelude.{ℕ, cond, List, length}

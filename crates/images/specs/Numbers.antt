@@ -1,4 +1,4 @@
--- Numbers as big_endian bytes, there and back. Assumes nothing.
+-- Numbers as big-endian bytes, there and back. Assumes nothing.
 use Rattle.std.specs.Prelude.{◌≡◌, ℕ, zero, suc, ◌+◌, ◌*◌, ◌/◌, ◌%◌, ◌^◌, ◌<◌, ◌≤◌, List, [], ◌∷◌, length, drop, slice_index, slice_index_or, refl}
 use Rattle.std.proofs.Common.{sym, ap, ◌∙◌, add-mul, mul_assoc, mul_comm, mul-one, mod-lt, mod-eq_of_lt, div-add-mod', div-one, pow-suc, add-one, arith}
 use Rattle.std.proofs.Math.Nat.{mod-one, pow-le-pow_right}

@@ -1,6 +1,6 @@
 -- Lists with an entry for each dimension: an index, or a list of extents.
 --   same        two lists are equal
---   two_of       m and n name two dimensions of so many: 1 ≤ m < n ≤ rank
+--   two_of      m and n name two dimensions of so many: 1 ≤ m < n ≤ rank
 --   exchanged   the entries of dimensions m and n change places
 --   removed     the entries of dimensions m and n are left out, m below n
 --   inserted    l is put in so that it stands at dimensions m and n, m below n

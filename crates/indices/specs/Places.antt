@@ -1,17 +1,17 @@
 -- Places of a table, by its list of extents.
---   within     an index lies in the extents: as long, each coordinate from 1 to its extent
---   product    how many places there are
---   place      the number of a place from 0, row-major: the last coordinate runs fastest
---   unplace    the place of a number
---   column     the number of a place from 0, column-major: the first coordinate runs fastest
---   each       every extent is from 1 to 64
---   proper     a shape: rank at most 4, extents 1 to 64, at most 4,096 places
---   pick       the extents of variable v, from 1, in a list of shapes; none where there is no v
---   at1        the extent of dimension d, from 1; 0 where there is no d
---   has        there is a variable v
---   total      how many places a list of shapes has
---   start      how many places the variables before v have
---   cell       the number of a place through all variables, variable after variable, from 0
+--   within    an index lies in the extents: as long, each coordinate from 1 to its extent
+--   product   how many places there are
+--   place     the number of a place from 0, row-major: the last coordinate runs fastest
+--   unplace   the place of a number
+--   column    the number of a place from 0, column-major: the first coordinate runs fastest
+--   each      every extent is from 1 to 64
+--   proper    a shape: rank at most 4, extents 1 to 64, at most 4,096 places
+--   pick      the extents of variable v, from 1, in a list of shapes; none where there is no v
+--   at1       the extent of dimension d, from 1; 0 where there is no d
+--   has       there is a variable v
+--   total     how many places a list of shapes has
+--   start     how many places the variables before v have
+--   cell      the number of a place through all variables, variable after variable, from 0
 use Rattle.std.specs.Prelude.{ℕ, ◌+◌, ◌-◌, ◌*◌, ◌/◌, ◌%◌, Bool, true, false, ◌&&◌, List, [], ◌∷◌, length, take, nat_le, slice_index, slice_index_or}
 
 abbrev pub within : List ℕ → List ℕ → Bool

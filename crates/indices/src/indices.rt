@@ -1,5 +1,5 @@
 // Lists with an entry for each of up to eight dimensions: how they are made, joined, cut, exchanged, shortened and extended.
-ghost use Rattle.std.specs.Prelude.{◌≡◌, ◌+◌, ◌-◌, ◌<◌, ◌≤◌, ◌&&◌, leb, [], ◌++◌, length, take, drop, if◌then◌else◌, Some, None, nat_le};
+ghost use Rattle.std.specs.Prelude.{◌≡◌, ◌+◌, ◌-◌, ◌<◌, ◌≤◌, ◌&&◌, [], ◌++◌, length, take, drop, if◌then◌else◌, Some, None, nat_le};
 ghost use Rattle.std.specs.Option.{option_map};
 ghost use Rattle.indices.specs.Dimensions.{same, two_of, exchanged, remove_at, removed, insert_at, inserted};
 ghost use Rattle.indices.specs.Places.{at1};
@@ -18,7 +18,7 @@ impl Index {
 
     // These entries, if there are at most eight.
     pub fn of(entries: &[u16]) -> Option<Index>
-        ensures { option_map coordinates result ≡ (if leb (length entries.now) 8 then Some entries.now else None) }
+        ensures { option_map coordinates result ≡ (if nat_le (length entries.now) 8 then Some entries.now else None) }
     {
         let len = entries.len();
         if len > 8 {
@@ -67,7 +67,7 @@ impl Index {
 
     // These entries and then the others, if there are at most eight.
     pub fn joined(self, other: Index) -> Option<Index>
-        ensures { option_map coordinates result ≡ (if leb (length (coordinates self) + length (coordinates other)) 8 then Some (coordinates self ++ coordinates other) else None) }
+        ensures { option_map coordinates result ≡ (if nat_le (length (coordinates self) + length (coordinates other)) 8 then Some (coordinates self ++ coordinates other) else None) }
     {
         let len = self.len + other.len;
         if len > 8 {

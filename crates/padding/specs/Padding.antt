@@ -1,7 +1,7 @@
 -- What padding means, what opening answers, and what it leaves in the store below.
---   padded          the meaning: the true shapes, and the reach and the elements of the store below
---   Padded          what padding needs of the store below: the rounded shapes, and zero outside the true ones
---   Cleared         zero stands in each place that is in shape below and not in its own shape, and nothing else has changed
+--   padded           the meaning: the true shapes, and the reach and the elements of the store below
+--   Padded           what padding needs of the store below: the rounded shapes, and zero outside the true ones
+--   Cleared          zero stands in each place that is in shape below and not in its own shape, and nothing else has changed
 --   padding_answer   what opening answers: refusals 4, 9, 10 and 11
 use Rattle.std.specs.Prelude.{◌≡◌, ℕ, ◌≤◌, true, false, cond, ◌&&◌, List, Some, None, Option, ◌≢◌, nat_le}
 use Rattle.shapes.specs.declared.declaration.Declaration.{Declaration}

@@ -1,10 +1,10 @@
 -- Extents rounded up to a multiple of a vector length.
---   round            an extent e rounded up to a multiple of m
---   LeastMultiple    what that means: r is the least multiple of m at or above e
---   rounded          a shape with every extent rounded
---   all_rounded       a list of shapes with every extent rounded
---   rounding         refusal 10 at the first shape that is none once it is rounded; else the rounded shapes
---   Figures          worked figures
+--   round           an extent e rounded up to a multiple of m
+--   LeastMultiple   what that means: r is the least multiple of m at or above e
+--   rounded         a shape with every extent rounded
+--   all_rounded     a list of shapes with every extent rounded
+--   rounding        refusal 10 at the first shape that is none once it is rounded; else the rounded shapes
+--   Figures         worked figures
 use Rattle.std.specs.Prelude.{◌≡◌, ℕ, ◌+◌, ◌-◌, ◌*◌, ◌/◌, ◌%◌, ◌<◌, ◌≤◌, cond, List, [], ◌∷◌, map}
 use Rattle.indices.specs.Places.{proper}
 use Rattle.refusals.specs.Refusals.{Answer, done, refused}

@@ -1,9 +1,9 @@
 -- Answers of calls, in the numbers and positions that the manual has.
---   number_of, position_of each refusal's number and position
---   Answer                 a call is done with a value, or refused with a number and a position
---   and_then               a question that is asked after another was answered
---   answer, answered       the answer that a result is, at what is seen of its value; at the value itself
---   opened, held           of a call that takes memory: its answer, and the memory, kept or given back
+--   number_of, position_of   each refusal's number and position
+--   Answer                   a call is done with a value, or refused with a number and a position
+--   and_then                 a question that is asked after another was answered
+--   answer, answered         the answer that a result is, at what is seen of its value; at the value itself
+--   opened, held             of a call that takes memory: its answer, and the memory, kept or given back
 use Rattle.std.specs.Prelude.{ℕ, Ok, Err, Result}
 use Rattle.refusals.specs.declared.refusal.Declined.{Declined}
 use Rattle.refusals.specs.declared.refusal.Refusal.{Refusal}

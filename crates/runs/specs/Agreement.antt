@@ -1,12 +1,12 @@
 -- Runs of one checked sheet, and what any two of them have in common.
---   Point      where a run stands: what its store means, and the next statement
---   opening    where it stands once it is opened
---   Moves      one call leads from a point to a point with a reply; every place in reach is pinned
---   Chain      a list of calls does, one after the other
---   Stands     a point after calls: the replies and the elements in shape are those of plain evaluation, and padded places are zero
---   Always     every chain of calls from the opening over a store stands
---   Alike      two runs after the first k of the calls: a point of each on its way from the opening to the end
---   Agreement  of two runs over two stores: what they do is a chain of calls, every chain stands, and they are alike all along
+--   Point       where a run stands: what its store means, and the next statement
+--   opening     where it stands once it is opened
+--   Moves       one call leads from a point to a point with a reply; every place in reach is pinned
+--   Chain       a list of calls does, one after the other
+--   Stands      a point after calls: the replies and the elements in shape are those of plain evaluation, and padded places are zero
+--   Always      every chain of calls from the opening over a store stands
+--   Alike       two runs after the first k of the calls: a point of each on its way from the opening to the end
+--   Agreement   of two runs over two stores: what they do is a chain of calls, every chain stands, and they are alike all along
 use Rattle.std.specs.Prelude.{◌≡◌, ℕ, ◌≤◌, true, false, List, [], ◌∷◌, length, take, drop}
 use Rattle.elements.specs.Algebra.{Algebra}
 use Rattle.evaluation.specs.Law.{Shows}

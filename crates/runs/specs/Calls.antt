@@ -1,6 +1,6 @@
 -- What a step leaves in the tray.
 --   tray_after   where the step works, the values of the statement's node, the last coordinate running fastest, and beyond them
---               what it held; otherwise all that it held
+--                what it held; otherwise all that it held
 use Rattle.std.specs.Prelude.{ℕ, cond, List, ◌++◌, length, drop}
 use Rattle.elements.specs.Algebra.{Algebra}
 use Rattle.evaluation.specs.Tray.{worked, target}

@@ -1,7 +1,7 @@
 -- Lists of calls with replies, as the code has them.
---   call_of, reply_of             the call and the reply that a value of the code stands for; a step has as many elements of a tray with
---                               so much room as it asks for, and all where it asks for more
---   calls_of, lefts_of, rights_of  the calls of a list, and what its two runs replied
+--   call_of, reply_of   the call and the reply that a value of the code stands for; a step has as many elements of a tray with
+--                       so much room as it asks for, and all where it asks for more
+--   calls_of, lefts_of, rights_of   the calls of a list, and what its two runs replied
 use Rattle.std.specs.Prelude.{ℕ, cond, List, map, nat_lt}
 use Rattle.refusals.specs.Refusals.{done, refused, number_of, position_of}
 use Rattle.indices.specs.Coordinates.{coordinates}

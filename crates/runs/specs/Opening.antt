@@ -1,6 +1,6 @@
 -- How a run begins.
 --   open_answer   refusal 19 where the store has other shapes than the sheet declares: at the first that differs, or 0 where their number differs
---   Begins       a run has the sheet's tables, and stands at statement 1
+--   Begins        a run has the sheet's tables, and stands at statement 1
 use Rattle.std.specs.Prelude.{◌≡◌, ℕ, List, Some, None, Option}
 use Rattle.refusals.specs.Refusals.{Answer, done, refused}
 use Rattle.sheets.specs.Sheets.{Contents}

@@ -1,12 +1,12 @@
 -- What the calls of a run do to the elements of a sheet's variables, and plain evaluation.
---   Call             fetch and put at a place, step with a tray of so many elements, rewind
---   Outcome, Reply   what a call that is done answers; what any call answers
---   State            an element for each place, and the number of the next statement
+--   Call              fetch and put at a place, step with a tray of so many elements, rewind
+--   Outcome, Reply    what a call that is done answers; what any call answers
+--   State             an element for each place, and the number of the next statement
 --   in_sheet          a place is in shape
 --   fetch_answer, put_answer, step_answer   what the calls answer, with refusals 20, 21 and 22
---   put, stepped     the state after a put at a place in shape, and after a step that works
---   reply, after     the answer to any call, and the state after it; contractions go up to the given extents of the variables
---   replies, afters  the same of a list of calls
+--   put, stepped      the state after a put at a place in shape, and after a step that works
+--   reply, after      the answer to any call, and the state after it; contractions go up to the given extents of the variables
+--   replies, afters   the same of a list of calls
 --   plain_replies, plain_after   plain evaluation: contractions go up to the extents, from the first statement on
 use Rattle.std.specs.Prelude.{ℕ, ◌+◌, Bool, cond, ◌&&◌, List, [], ◌∷◌, length, ◌==◌, nat_le}
 use Rattle.elements.specs.Algebra.{Algebra}

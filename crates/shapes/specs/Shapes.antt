@@ -1,13 +1,13 @@
 -- Declarations, judged shapes, and what a table of shapes answers.
---   extents_of      the extents of a shape
---   shapes_of       the shapes of a table, as lists of extents
---   valid          a declaration is a shape, with zeros beyond its rank
---   shape_declared  the extents that a declaration gives, if it is valid
---   declared       the question about declarations, refusal 4: at most 16, each valid; the shapes where both hold
+--   extents_of            the extents of a shape
+--   shapes_of             the shapes of a table, as lists of extents
+--   valid                 a declaration is a shape, with zeros beyond its rank
+--   shape_declared        the extents that a declaration gives, if it is valid
+--   declared              the question about declarations, refusal 4: at most 16, each valid; the shapes where both hold
 --   place_in, column_in   the row-major and the column-major number of a place in a shape, if it lies there
---   index_in        the index of a row-major number, if the shape has as many places
+--   index_in              the index of a row-major number, if the shape has as many places
 --   shape_answer, rank_answer, extent_answer   a variable's shape, rank and extent; refusal 1 where there is none
---   place_answer    the number of a place through all variables; refusals 1, and 2 where it does not lie in the shape
+--   place_answer          the number of a place through all variables; refusals 1, and 2 where it does not lie in the shape
 use Rattle.std.specs.Prelude.{ℕ, ◌+◌, Bool, true, cond, ◌&&◌, List, [], ◌∷◌, map, length, take, drop, Some, None, Option, ◌==◌, nat_le, nat_lt}
 use Rattle.shapes.specs.declared.declaration.Declaration.{Declaration}
 use Rattle.shapes.specs.declared.shape.Shape.{Shape}

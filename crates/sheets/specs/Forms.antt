@@ -1,6 +1,6 @@
 -- The forms of nodes.
 --   form_of   the form of a kind, 1 to 8
---   tidy     every field that the form does not use is zero
+--   tidy      every field that the form does not use is zero
 use Rattle.std.specs.Prelude.{ℕ, Bool, cond, ◌&&◌, Some, None, Option, ◌==◌}
 use Rattle.sheets.specs.declared.form.Form.{Form}
 use Rattle.sheets.specs.declared.form.Form.TheVariants.{Variable, Outer, Sum, Difference, Product, Quotient, Transposition, Contraction}

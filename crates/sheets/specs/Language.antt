@@ -1,11 +1,11 @@
 -- The tensor model language: expressions, their types, and what a table of nodes unfolds to.
---   Expr          expressions: variables, outer products, element by element operations, transpositions, contractions
---   Typed         the typing judgement, with one rule for each form; the shapes of the variables are given
---   depth         1 for a variable, otherwise one more than the deepest operand
---   nesting       the largest number of contractions on a path down, itself included
---   expr_of        the expression that node k unfolds to, if its kind, its unused fields and its operands allow one
---   Meaningful    the bounds hold, and every node and every statement has a type
---   Means         tables pass exactly where they are meaningful; and a node has at most one type
+--   Expr         expressions: variables, outer products, element by element operations, transpositions, contractions
+--   Typed        the typing judgement, with one rule for each form; the shapes of the variables are given
+--   depth        1 for a variable, otherwise one more than the deepest operand
+--   nesting      the largest number of contractions on a path down, itself included
+--   expr_of      the expression that node k unfolds to, if its kind, its unused fields and its operands allow one
+--   Meaningful   the bounds hold, and every node and every statement has a type
+--   Means        tables pass exactly where they are meaningful; and a node has at most one type
 use Rattle.std.specs.Prelude.{◌≡◌, ℕ, ◌+◌, ◌≤◌, Bool, true, cond, List, [], ◌∷◌, ◌++◌, length, Some, None, Option, slice_index_or}
 use Rattle.shapes.specs.declared.declaration.Declaration.{Declaration}
 use Rattle.indices.specs.Dimensions.{two_of, exchanged, removed}

@@ -1,11 +1,11 @@
 -- What each form's rule makes of its operands, and the questions about one node.
---   Info       what is known of a node: its extents, depth and nesting
---   info_of     that of a judgement
---   earlier    j is the number of a node before k
---   present    question 14: the variable is declared, or each operand is an earlier node
---   ruled      question 15: what the form's rule gives
---   bounded    question 16: rank at most 8, depth at most 16, nesting at most 3
---   node_answer the four questions about node k, in order
+--   Info          what is known of a node: its extents, depth and nesting
+--   info_of       that of a judgement
+--   earlier       j is the number of a node before k
+--   present       question 14: the variable is declared, or each operand is an earlier node
+--   ruled         question 15: what the form's rule gives
+--   bounded       question 16: rank at most 8, depth at most 16, nesting at most 3
+--   node_answer   the four questions about node k, in order
 use Rattle.std.specs.Prelude.{ℕ, ◌+◌, Bool, cond, ◌&&◌, List, [], ◌∷◌, ◌++◌, length, Some, None, Option, ◌==◌, nat_le, nat_lt, slice_index_or}
 use Rattle.indices.specs.Dimensions.{same, two_of, exchanged, removed}
 use Rattle.indices.specs.Places.{pick, at1, has}

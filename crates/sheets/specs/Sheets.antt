@@ -1,8 +1,8 @@
 -- Checked sheets.
---   Contents    what a checked sheet holds
---   contents    that of a sheet
---   judged_sheet the sheet that the verdict gives where all questions pass
---   filled      what a lent sheet holds after
+--   Contents       what a checked sheet holds
+--   contents       that of a sheet
+--   judged_sheet   the sheet that the verdict gives where all questions pass
+--   filled         what a lent sheet holds after
 use Rattle.std.specs.Prelude.{ℕ, List, map, take}
 use Rattle.shapes.specs.declared.declaration.Declaration.{Declaration}
 use Rattle.refusals.specs.Refusals.{Answer, done, refused, and_then}

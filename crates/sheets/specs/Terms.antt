@@ -4,12 +4,12 @@
 --   node_at          node k, from 1
 --   made_of          what a node of a form is made of
 --   term_of          what node k is made of, by its kind
---   meant           the language's operation that one of the code stands for
---   Unfolds         the expression of node k is made of those of its operands, which are earlier nodes
---   NodeMeans       the expression of node k has the type that was found, within bounds
---   StatementMeans  a statement's variable is declared, and its node has the type of the variable
---   Judged          both, of every node and every statement of a sheet
---   Told            what a call that tells of node k says about its expression
+--   meant            the language's operation that one of the code stands for
+--   Unfolds          the expression of node k is made of those of its operands, which are earlier nodes
+--   NodeMeans        the expression of node k has the type that was found, within bounds
+--   StatementMeans   a statement's variable is declared, and its node has the type of the variable
+--   Judged           both, of every node and every statement of a sheet
+--   Told             what a call that tells of node k says about its expression
 use Rattle.std.specs.Prelude.{◌≡◌, ℕ, ◌≤◌, Bool, true, false, ◌&&◌, List, ◌∷◌, length, Some, None, Option, nat_le, slice_index_or}
 use Rattle.indices.specs.Places.{pick, has}
 use Rattle.sheets.specs.declared.form.Form.{Form}

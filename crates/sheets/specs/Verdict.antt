@@ -1,9 +1,9 @@
 -- The verdict on the tables of a sheet: which question is the first that is answered no.
 --   infos_from        the questions about the nodes, each node's before the next one's; what is known of them where all pass
 --   statements_from   the questions about the statements, 17 and 18
---   tables           both; what is known of the nodes where all pass
---   verdict          the whole: 4, 12, and then the tables
---   finds            an answer is this, as a test
+--   tables            both; what is known of the nodes where all pass
+--   verdict           the whole: 4, 12, and then the tables
+--   finds             an answer is this, as a test
 use Rattle.std.specs.Prelude.{ℕ, ◌+◌, Bool, true, false, cond, ◌&&◌, List, [], ◌∷◌, ◌++◌, length, ◌==◌, nat_le}
 use Rattle.shapes.specs.declared.declaration.Declaration.{Declaration}
 use Rattle.indices.specs.Dimensions.{same}

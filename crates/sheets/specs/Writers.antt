@@ -1,7 +1,7 @@
 -- Who wrote a variable last.
---   assigns        statement j assigns the variable
---   Writer         the greatest number below s of a statement that assigns the variable, or none where there is none
---   LastWriter     that of a call that is done
+--   assigns         statement j assigns the variable
+--   Writer          the greatest number below s of a statement that assigns the variable, or none where there is none
+--   LastWriter      that of a call that is done
 --   writer_answer   question 24: the variable is declared, and s from 1 to one past the last statement
 use Rattle.std.specs.Prelude.{◌≡◌, ℕ, ◌+◌, ◌<◌, ◌≤◌, cond, ◌&&◌, List, ◌∷◌, length, Some, None, Ok, Err, Option, Result, nat_le, slice_index_or}
 use Rattle.refusals.specs.declared.refusal.Refusal.{Refusal}

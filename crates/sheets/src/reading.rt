@@ -1,5 +1,5 @@
 // What a checked sheet tells: what its nodes are made of, its statements and the shapes of its variables.
-ghost use Rattle.std.specs.Prelude.{◌≡◌, ◌&&◌, leb, ◌∷◌, length, if◌then◌else◌, Some, None, nat_le, slice_index_or};
+ghost use Rattle.std.specs.Prelude.{◌≡◌, ◌&&◌, ◌∷◌, length, if◌then◌else◌, Some, None, nat_le, slice_index_or};
 ghost use Rattle.shapes.specs.Shapes.{shapes_of};
 ghost use Rattle.sheets.specs.Forms.{form_of};
 ghost use Rattle.sheets.specs.Language.{blank};
@@ -44,7 +44,7 @@ impl CheckedSheet {
 
     // Statement s, from 1, if there is one.
     pub fn statement(&self, s: usize) -> Option<Statement>
-        ensures { result ≡ (if leb 1 s && nat_le s (length (contents self.now).statements) then Some (slice_index_or (blank ∷ (contents self.now).statements) s blank) else None) }
+        ensures { result ≡ (if nat_le 1 s && nat_le s (length (contents self.now).statements) then Some (slice_index_or (blank ∷ (contents self.now).statements) s blank) else None) }
     {
         if s < 1 || s > self.statement_count {
             return None;

@@ -1,5 +1,5 @@
 -- Cells: elements in a list, variable after variable, the last coordinate running fastest.
---   flat          their meaning: a rounded extent is the extent
+--   flat           their meaning: a rounded extent is the extent
 --   cells_answer   what opening answers: refusal 4, then 5 where there are too few elements
 use Rattle.std.specs.Prelude.{ℕ, cond, List, nat_le, slice_index_or}
 use Rattle.shapes.specs.declared.declaration.Declaration.{Declaration}

@@ -1,10 +1,10 @@
 -- What a store means, which meanings are lawful, and what a store answers.
---   Meaning               the shapes of the variables, their rounded extents (the reach), and the element at each place
---   in_shape, in_reach      a place, a variable and an index, lies in its shape; in its reach
---   Covers                rounded extents are as many as the extents, at least these and at most 64
---   Lawful                what holds of every store; a place in reach and not in shape is spare, and holds zero
+--   Meaning              the shapes of the variables, their rounded extents (the reach), and the element at each place
+--   in_shape, in_reach   a place, a variable and an index, lies in its shape; in its reach
+--   Covers               rounded extents are as many as the extents, at least these and at most 64
+--   Lawful               what holds of every store; a place in reach and not in shape is spare, and holds zero
 --   read_answer, write_answer   what read and write answer, with refusals 1, 2 and 3
---   Written               what a write leaves: one place is set, and nothing else of the meaning changes
+--   Written              what a write leaves: one place is set, and nothing else of the meaning changes
 use Rattle.std.specs.Prelude.{◌≡◌, ℕ, ◌≤◌, Bool, true, false, cond, ◌&&◌, ◌||◌, List, [], ◌∷◌, length, ◌≢◌, nat_le}
 use Rattle.elements.specs.Algebra.{Algebra, is_zero}
 use Rattle.indices.specs.Places.{within, product, proper, pick, at1, has}
