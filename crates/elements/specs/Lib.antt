@@ -6,6 +6,6 @@ pub mod Metres
 pub mod Legs
 pub mod Costs
 pub mod Made
-pub mod LegQuantityLemmas
+pub mod Soundness
 pub mod Distances
 pub mod Sizes

@@ -1,7 +1,7 @@
 // An element: a defined value or the undefined one, with the rules for zero and for undefined operands.
 ghost use Rattle.std.specs.Prelude.{◌≡◌};
 ghost use Rattle.elements.specs.Elements.{element, null, text, algebra_of};
-ghost use Rattle.std.proofs.Common.{rules};
+ghost use Rattle.elements.specs.Soundness.{algebra_lawful, algebra_strict};
 
 use super::kind::Kind;
 use super::quantity::Quantity;
@@ -48,9 +48,9 @@ impl<Q: fmt::Display> fmt::Display for Element<Q> {
 impl<Q: Quantity> Kind for Element<Q> {
     ghost algebra = { algebra_of Q.Quantity.arithmetic };
 
-    ghost lawful = { Prim.search rules };
+    ghost lawful = { algebra_lawful Q.Quantity.arithmetic Q.Quantity.sound };
 
-    ghost strict = { Prim.search rules };
+    ghost strict = { algebra_strict Q.Quantity.arithmetic Q.Quantity.sound };
 
     fn number() -> u8 {
         Q::number()

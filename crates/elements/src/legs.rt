@@ -1,9 +1,8 @@
 // Legs: the cost of going from one place to the next, or no way at all.
-ghost use Rattle.std.specs.Prelude.{◌≡◌, Some, decimal, refl};
+ghost use Rattle.std.specs.Prelude.{◌≡◌, Some, decimal};
 ghost use Rattle.elements.specs.Legs.{cost, way, text, legs as arithmetic_of_legs};
 ghost use Rattle.elements.specs.Elements.{element};
-ghost use Rattle.elements.specs.Costs.{leg_of_code, code_of_leg};
-ghost use Rattle.elements.specs.LegQuantityLemmas.{zero_found, beside_none, apart};
+ghost use Rattle.elements.specs.Soundness.{legs_sound};
 
 use super::cost::Cost;
 use super::element;
@@ -82,14 +81,7 @@ impl fmt::Display for Leg {
 impl Quantity for Leg {
     ghost arithmetic = { arithmetic_of_legs };
 
-    ghost sound = { record {
-      null_zero = zero_found;
-      plus_zero = beside_none;
-      zero_minus_zero = refl;
-      decode_code = leg_of_code;
-      code_decode = code_of_leg;
-      blank_apart = apart;
-    } };
+    ghost sound = { legs_sound };
 
     fn number() -> u8 {
         2

@@ -1,14 +1,9 @@
 // Metres: distances as signed numbers.
-ghost use Rattle.std.specs.Prelude.{◌≡◌, pos, ◌+ℤ◌, ◌-ℤ◌, Some, MatchOption, refl};
-ghost use Rattle.std.proofs.Common.{sym, ap, arith};
-ghost use Rattle.std.proofs.Math.IntN.{+ℤ_idr};
+ghost use Rattle.std.specs.Prelude.{◌≡◌, pos, Some, MatchOption};
 ghost use Rattle.std.specs.Fmt.{signed_decimal};
 ghost use Rattle.elements.specs.Metres.{distance, metres as arithmetic_of_metres, Truncated};
 ghost use Rattle.elements.specs.Elements.{element};
-ghost use Rattle.elements.specs.Ranges.{nought};
-ghost use Rattle.elements.specs.Metres as SpecsMetres;
-ghost use Rattle.elements.specs.declared.distance.Distance.{Distance};
-ghost use Rattle.elements.specs.Distances.{distance_is, distance_metres, same_metres, nought_zero, code_number, number_code};
+ghost use Rattle.elements.specs.Soundness.{metres_sound};
 
 use super::distance::Distance;
 use super::element;
@@ -64,14 +59,7 @@ impl fmt::Display for Distance {
 impl Quantity for Distance {
     ghost arithmetic = { arithmetic_of_metres };
 
-    ghost sound = { record {
-      null_zero = λ x. (λ h. same_metres x (SpecsMetres.metres).zero (nought_zero x.metres h), λ e. ap (λ (d : Distance). nought d.metres) e);
-      plus_zero = λ x. distance_is (x.metres +ℤ pos 0) x (sym (+ℤ_idr x.metres));
-      zero_minus_zero = refl;
-      decode_code = λ x. distance_is _ x (sym (code_number x.metres x.ranged).0);
-      code_decode = λ c x e. number_code c x.metres (distance_metres (pos c -ℤ pos 2147483648) x e);
-      blank_apart = λ x e. omega (arith, e, (code_number x.metres x.ranged).1);
-    } };
+    ghost sound = { metres_sound };
 
     fn number() -> u8 {
         1

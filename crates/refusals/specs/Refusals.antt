@@ -1,4 +1,4 @@
--- Answers of calls, in the numbers and positions that the manual has.
+-- Answers of calls, in the numbers and positions that docs/SPECIFICATION.md gives.
 --   number_of, position_of   each refusal's number and position
 --   Answer                   a call is done with a value, or refused with a number and a position
 --   and_then                 a question that is asked after another was answered

@@ -1,4 +1,4 @@
-use Rattle.std.proofs.Common.{subst}
+use Rattle.std.proofs.Common.{subst, rules}
 use Rattle.fourpiles.specs.Product.{Sides}
 use Rattle.fourpiles.proofs.product.plan.Goals as goal
 
@@ -13,6 +13,6 @@ returns g c =
       right = subst (λ n. Sides ss c.args.b n c.in_ok-height.columns) c.if-height-inner.false right;
       result = subst (λ n. Sides ss c.args.c n c.in_ok-height.columns) c.if-tall-rows.false
           (subst (λ n. Sides ss c.args.c c.in_ok-tall.tall n) c.if-wide-columns.false result);
-      not_left = c.if-a-c.false;
-      not_right = c.if-b-c.false;
+      not_left = search rules;
+      not_right = search rules;
     }
