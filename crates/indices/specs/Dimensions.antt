@@ -1,17 +1,15 @@
 -- Lists with an entry for each dimension: an index, or a list of extents.
---   same        two lists are equal
+--   same        two lists are equal, entry by entry
 --   two_of      m and n name two dimensions of so many: 1 ≤ m < n ≤ rank
 --   exchanged   the entries of dimensions m and n change places
 --   removed     the entries of dimensions m and n are left out, m below n
 --   inserted    l is put in so that it stands at dimensions m and n, m below n
 --   Each2       two lists are as long as each other and related entry by entry
-use Rattle.std.specs.Prelude.{ℕ, zero, suc, ◌-◌, Bool, true, false, ◌&&◌, List, [], ◌∷◌, ◌==◌, nat_le, nat_lt, slice_index, slice_set}
+use Rattle.std.specs.Prelude.{ℕ, zero, suc, ◌-◌, Bool, ◌&&◌, List, [], ◌∷◌, ◌==◌, nat_le, nat_lt, slice_index, slice_set}
+use Rattle.std.specs.Cmp.Lexicographic.{pointwise}
 
 abbrev pub same : List ℕ → List ℕ → Bool
-same [] [] = true
-same [] (y ∷ ys) = false
-same (x ∷ xs) [] = false
-same (x ∷ xs) (y ∷ ys) = x == y && same xs ys
+same xs ys = pointwise ◌==◌ xs ys
 
 abbrev pub two_of : ℕ → ℕ → ℕ → Bool
 two_of m n rank = nat_le 1 m && (nat_lt m n && nat_le n rank)

@@ -1,3 +1,4 @@
 pub mod Places
 pub mod Dimensions
 pub mod Coordinates
+pub mod Equality

@@ -1,44 +1,69 @@
-// Lists with an entry for each of up to eight dimensions: how they are made, joined, cut, exchanged, shortened and extended.
+// Lists with an entry for each of up to eight dimensions: how they are made, compared, joined, cut, exchanged, shortened and extended.
 ghost use Rattle.std.specs.Prelude.{◌≡◌, ◌+◌, ◌-◌, ◌<◌, ◌≤◌, ◌&&◌, [], ◌++◌, length, take, drop, if◌then◌else◌, Some, None, nat_le};
+ghost use Rattle.std.specs.List.{reverse};
 ghost use Rattle.std.specs.Option.{option_map};
 ghost use Rattle.indices.specs.Dimensions.{same, two_of, exchanged, remove_at, removed, insert_at, inserted};
 ghost use Rattle.indices.specs.Places.{at1};
-ghost use Rattle.indices.specs.Coordinates.{coordinates};
+ghost use Rattle.indices.specs.Coordinates.{coordinates, Holds};
+ghost use Rattle.indices.specs.Equality.{same_equivalence, same_partial};
 
 use super::index::Index;
+
+// What is said of more entries than an index has.
+#[derive(Clone, Copy, PartialEq, Eq, Debug)]
+pub struct TooLong;
+
+// These entries, if there are at most eight.
+impl TryFrom<&[u16]> for Index {
+    type Error = TooLong;
+
+    ghost try_from_gives = { λ entries r. Holds entries.now r };
+
+    fn try_from(entries: &[u16]) -> Result<Index, TooLong> {
+        let len = entries.len();
+        if len > 8 {
+            return Err(TooLong);
+        }
+        let mut coords = [0; 8];
+        coords[..len].copy_from_slice(entries);
+        Ok(Index { len, coords })
+    }
+}
+
+// Whether the entries are the same; what stands behind them doesn't count.
+impl PartialEq for Index {
+    ghost eq = { λ x y. same (coordinates x) (coordinates y) };
+
+    ghost laws = { same_partial };
+
+    fn eq(&self, other: &Index) -> bool {
+        self.as_slice() == other.as_slice()
+    }
+}
+
+impl Eq for Index {
+    ghost laws = { same_equivalence };
+}
 
 impl Index {
     // No entry: the index of a scalar.
     pub fn empty() -> Index
         ensures { coordinates result ≡ [] }
     {
-        let coords = [0; 8];
-        Index { len: 0, coords }
-    }
-
-    // These entries, if there are at most eight.
-    pub fn of(entries: &[u16]) -> Option<Index>
-        ensures { option_map coordinates result ≡ (if nat_le (length entries.now) 8 then Some entries.now else None) }
-    {
-        let len = entries.len();
-        if len > 8 {
-            return None;
+        Index {
+            len: 0,
+            coords: [0; 8],
         }
-        let mut coords = [0; 8];
-        for k in 0..len {
-            coords[k] = entries[k];
-        }
-        Some(Index { len, coords })
     }
 
     // The entries, one for each dimension.
     pub fn as_slice(&self) -> &[u16]
         ensures { result.now ≡ coordinates self.now }
     {
-        &self.coords[0..self.len]
+        &self.coords[..self.len]
     }
 
-    // The entry of a dimension, from 1; 0 where there is none.
+    // The entry of a dimension, from 1; 0, which is no coordinate and no extent, where there is none.
     pub fn entry(&self, d: usize) -> u16
         ensures { result ≡ at1 (coordinates self.now) d }
     {
@@ -46,23 +71,6 @@ impl Index {
             return 0;
         }
         self.coords[d - 1]
-    }
-
-    // Whether the entries are the same.
-    pub fn same(&self, other: &Index) -> bool
-        ensures { result ≡ same (coordinates self.now) (coordinates other.now) }
-    {
-        let xs = self.as_slice();
-        let ys = other.as_slice();
-        if xs.len() != ys.len() {
-            return false;
-        }
-        for d in 0..xs.len() {
-            if xs[d] != ys[d] {
-                return false;
-            }
-        }
-        true
     }
 
     // These entries and then the others, if there are at most eight.
@@ -74,9 +82,7 @@ impl Index {
             return None;
         }
         let mut coords = self.coords;
-        for k in 0..other.len {
-            coords[self.len + k] = other.coords[k];
-        }
+        coords[self.len..len].copy_from_slice(other.as_slice());
         Some(Index { len, coords })
     }
 
@@ -84,11 +90,9 @@ impl Index {
     pub fn first(self, n: usize) -> Index
         ensures { coordinates result ≡ take n (coordinates self) }
     {
-        if n >= self.len {
-            return self;
-        }
         let coords = self.coords;
-        Index { len: n, coords }
+        let len = n.min(self.len);
+        Index { len, coords }
     }
 
     // What is left after the first n entries.
@@ -99,10 +103,18 @@ impl Index {
             return Index::empty();
         }
         let mut coords = self.coords;
-        for j in n..self.len {
-            coords[j - n] = self.coords[j];
-        }
+        coords.copy_within(n..self.len, 0);
         let len = self.len - n;
+        Index { len, coords }
+    }
+
+    // The entries from last to first.
+    pub fn reversed(self) -> Index
+        ensures { coordinates result ≡ reverse (coordinates self) }
+    {
+        let mut coords = self.coords;
+        coords[..self.len].reverse();
+        let len = self.len;
         Index { len, coords }
     }
 
@@ -114,8 +126,7 @@ impl Index {
             return None;
         }
         let mut coords = self.coords;
-        coords[m - 1] = self.coords[n - 1];
-        coords[n - 1] = self.coords[m - 1];
+        coords.swap(m - 1, n - 1);
         let len = self.len;
         Some(Index { len, coords })
     }
@@ -137,9 +148,7 @@ impl Index {
         ensures len { result.len + 1 ≡ self.len }
     {
         let mut coords = self.coords;
-        for j in p + 1..self.len {
-            coords[j - 1] = self.coords[j];
-        }
+        coords.copy_within(p + 1..self.len, p);
         let len = self.len - 1;
         Index { len, coords }
     }
@@ -162,10 +171,8 @@ impl Index {
         ensures len { result.len ≡ self.len + 1 }
     {
         let mut coords = self.coords;
+        coords.copy_within(p..self.len, p + 1);
         coords[p] = x;
-        for j in p..self.len {
-            coords[j + 1] = self.coords[j];
-        }
         let len = self.len + 1;
         Index { len, coords }
     }
