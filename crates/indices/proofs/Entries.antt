@@ -80,6 +80,7 @@ inserted_is cs p x len h k =
     ∙ ap (λ t. t ++ x ∷ back) (sym (take-take p len cs h))
     ∙ ap (λ t. take p (take len cs) ++ x ∷ t) b
     ∙ sym (insert_is p x (take len cs) (omega arith))
+
 pub remove_length : (p : ℕ) (i : List ℕ) → p < length i → length i ≡ suc (length (remove_at p i))
 remove_length zero [] h = absurd (omega arith)
 remove_length zero (y ∷ ys) h = refl

@@ -1,5 +1,4 @@
 -- That equality of indices is an equivalence. Assumes nothing.
-use Rattle.std.specs.Prelude.{◌==◌}
 use Rattle.std.specs.Cmp.{IsEquivalence, IsPartialEquivalence, on_equiv, on_per, partial_equiv_from_equiv}
 use Rattle.std.specs.Cmp.Lexicographic.{nat_list_eq_equiv}
 use Rattle.indices.specs.Dimensions.{same}

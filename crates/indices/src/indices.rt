@@ -1,6 +1,5 @@
 // Lists with an entry for each of up to eight dimensions: how they are made, compared, joined, cut, exchanged, shortened and extended.
-ghost use Rattle.std.specs.Prelude.{◌≡◌, ◌+◌, ◌-◌, ◌<◌, ◌≤◌, ◌&&◌, [], ◌++◌, length, take, drop, if◌then◌else◌, Some, None, nat_le};
-ghost use Rattle.std.specs.List.{reverse};
+ghost use Rattle.std.specs.Prelude.{◌≡◌, ◌+◌, ◌-◌, ◌<◌, ◌≤◌, ◌&&◌, [], ◌++◌, length, take, drop, reverse, if◌then◌else◌, Some, None, nat_le};
 ghost use Rattle.std.specs.Option.{option_map};
 ghost use Rattle.indices.specs.Dimensions.{same, two_of, exchanged, remove_at, removed, insert_at, inserted};
 ghost use Rattle.indices.specs.Places.{at1};
