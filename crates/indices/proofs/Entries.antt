@@ -1,9 +1,9 @@
 -- Lists with an entry for each dimension, as moving parts of them leaves them. Assumes nothing.
-use Rattle.std.proofs.Common.{◌≡◌, ℕ, zero, suc, ◌+◌, ◌-◌, ◌<◌, ◌≤◌, true, false, ◌&&◌, ltb, leb, ◌⊎◌, List, [], ◌∷◌, ◌++◌, length, get_or, take, drop, set, sym, refl, ap, ◌∙◌, ⊎_elim, arith, length-drop}
+use Rattle.std.proofs.Common.{◌≡◌, ℕ, zero, suc, ◌+◌, ◌-◌, ◌<◌, ◌≤◌, true, ◌&&◌, ltb, leb, List, [], ◌∷◌, ◌++◌, length, get_or, take, drop, set, sym, refl, ap, ◌∙◌, arith, length-drop}
 use Rattle.std.proofs.Math.Seq.{paste, take-set-lt, set-append_seam}
 use Rattle.std.proofs.lemmas.List.{take_more, take-take, length-take-le, get_or-take, drop-take, append_assoc}
 use Rattle.std.proofs.lemmas.List.Edits.{take-paste}
-use Rattle.std.proofs.lemmas.Bool.{and_from, and_left, and_right, le-leb, lt-leb, lt-ltb, le-ltb}
+use Rattle.std.proofs.lemmas.Bool.{and_from, le-leb, lt-ltb}
 use Rattle.indices.specs.declared.index.Index.{Index}
 use Rattle.indices.specs.Dimensions.{two_of, exchanged, remove_at, insert_at}
 use Rattle.indices.specs.Coordinates.{coordinates}
@@ -14,14 +14,6 @@ entries_length i = length-take-le i.len i.coords (omega (arith, i.small, i.whole
 
 pub two_from : (m n k : ℕ) → 1 ≤ m → m < n → n ≤ k → two_of m n k ≡ true
 two_from m n k a b c = and_from (leb 1 m) (ltb m n && leb n k) (le-leb 1 m a) (and_from (ltb m n) (leb n k) (lt-ltb m n b) (le-leb n k c))
-
-pub two_not : (m n k : ℕ) → (m < 1) ⊎ ((n ≤ m) ⊎ (k < n)) → two_of m n k ≡ false
-two_not m n k h =
-    ⊎_elim (λ l. and_left (leb 1 m) (ltb m n && leb n k) (lt-leb 1 m l))
-    (⊎_elim
-    (λ l. and_right (leb 1 m) (ltb m n && leb n k) (and_left (ltb m n) (leb n k) (le-ltb m n l)))
-    (λ l. and_right (leb 1 m) (ltb m n && leb n k) (and_right (ltb m n) (leb n k) (lt-leb n k l))))
-    h
 
 pub exchange_is : (cs : List ℕ) (len m n : ℕ) → 1 ≤ m → m < n → n ≤ len → take len (set (set cs (m - 1) (get_or cs (n - 1) 0)) (n - 1) (get_or cs (m - 1) 0)) ≡ exchanged m n (take len cs)
 exchange_is cs len m n f o l =

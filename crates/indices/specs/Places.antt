@@ -13,6 +13,7 @@
 --   start     how many places the variables before v have
 --   cell      the number of a place through all variables, variable after variable, from 0
 use Rattle.std.specs.Prelude.{ℕ, ◌+◌, ◌-◌, ◌*◌, ◌/◌, ◌%◌, Bool, true, false, ◌&&◌, List, [], ◌∷◌, length, take, nat_le, slice_index, slice_index_or}
+use Rattle.std.specs.List.{list_all}
 
 abbrev pub within : List ℕ → List ℕ → Bool
 within [] [] = true
@@ -39,8 +40,7 @@ column (e ∷ es) [] = 0
 column (e ∷ es) (c ∷ cs) = (c - 1) + e * column es cs
 
 abbrev pub each : List ℕ → Bool
-each [] = true
-each (e ∷ es) = (nat_le 1 e && nat_le e 64) && each es
+each es = list_all (λ e. nat_le 1 e && nat_le e 64) es
 
 abbrev pub proper : List ℕ → Bool
 proper es = nat_le (length es) 4 && (each es && nat_le (product es) 4096)

@@ -1,10 +1,13 @@
 -- Column-major numbers of places. Assumes nothing.
-use Rattle.std.proofs.Common.{◌≡◌, ℕ, zero, suc, ◌+◌, ◌-◌, ◌*◌, ◌/◌, ◌%◌, ◌<◌, ◌≤◌, true, List, [], ◌∷◌, length, get_or, drop, sym, refl, ap, ◌∙◌, mul_comm, le-mul_of_pos_right, arith}
-use Rattle.std.proofs.lemmas.Bool.{false≢true}
-use Rattle.std.proofs.lemmas.List.{drop_more}
+use Rattle.std.proofs.Common.{◌≡◌, ℕ, ◌+◌, ◌-◌, ◌*◌, ◌/◌, ◌%◌, ◌<◌, ◌≤◌, Bool, true, false, cond, ◌&&◌, leb, List, [], ◌∷◌, ◌++◌, reverse, length, Some, None, sym, refl, ap, ◌∙◌, ⊎_elim, mul_assoc, mul_comm, mul-add, arith}
+use Rattle.std.proofs.lemmas.Bool.{cond-false, cases_eq, false≢true}
+use Rattle.std.proofs.lemmas.List.{reverse-append, length-reverse}
+use Rattle.std.proofs.lemmas.List.Folds.{list_all-append}
 use Rattle.std.proofs.lemmas.Nat.{div-mul-add, mod-mul-add, mul-add-lt}
-use Rattle.indices.specs.Places.{within, product, column}
-use Rattle.shapes.proofs.Numbering.{within_parts, within_length, within_solid, Solid}
+use Rattle.indices.specs.Places.{within, product, place, column, each, proper}
+use Rattle.shapes.specs.Shapes.{place_in, column_in}
+use Rattle.shapes.proofs.Numbering.{within_parts, within_uneven}
+use Rattle.shapes.proofs.Extents.{proper_parts, proper_from}
 
 pub column_lt : (es cs : List ℕ) → within es cs ≡ true → column es cs < product es
 column_lt [] [] h = omega arith
@@ -36,35 +39,97 @@ column_same (e ∷ es) (c ∷ cs) (d ∷ ds) h k q =
     let g = column_same es cs ds p.2 r.2 b in
     cc
 
--- a loop's step from dimension d + 1 down to d
-pub column_more : (es cs : List ℕ) (d : ℕ) → d < length es → d < length cs → column (drop d es) (drop d cs) ≡ (get_or cs d 0 - 1) + get_or es d 0 * column (drop (d + 1) es) (drop (d + 1) cs)
-column_more es cs d h k = rw (drop_more es d 0 h, drop_more cs d 0 k)
+-- lists turned round, and one entry more at their ends
+reverse_cons : (x : ℕ) (xs : List ℕ) → reverse (x ∷ xs) ≡ reverse xs ++ x ∷ []
+reverse_cons x xs = reverse-append (x ∷ []) xs
 
-within_drop : (es cs : List ℕ) (d : ℕ) → within es cs ≡ true → within (drop d es) (drop d cs) ≡ true
-within_drop es cs zero h = h
-within_drop [] [] (suc d) h = refl
-within_drop [] (c ∷ cs) (suc d) h = absurd (false≢true h)
-within_drop (e ∷ es) [] (suc d) h = absurd (false≢true h)
-within_drop (e ∷ es) (c ∷ cs) (suc d) h = within_drop es cs d (within_parts e c es cs h).2
+product_end : (es : List ℕ) (e : ℕ) → product (es ++ e ∷ []) ≡ e * product es
+product_end [] e = refl
+product_end (x ∷ es) e = ap (λ t. x * t) (product_end es e) ∙ sym (mul_assoc x e (product es)) ∙ ap (λ t. t * product es) (mul_comm x e) ∙ mul_assoc e x (product es)
 
-product_drop : (es : List ℕ) (d : ℕ) → Solid es → product (drop d es) ≤ product es
-product_drop es zero s = omega arith
-product_drop [] (suc d) s = omega arith
-product_drop (e ∷ es) (suc d) s =
-    let q = product_drop es d s.1 in
-    omega (arith, s.0, le-mul_of_pos_right (product es) s.0, mul_comm e (product es))
+and_moved : (p q r : Bool) → (p && (q && r)) ≡ ((p && q) && r)
+and_moved true q r = refl
+and_moved false q r = refl
 
--- n is the number of the coordinates after dimension d
-module _ (es cs : List ℕ) (w : within es cs ≡ true) (d n : ℕ) (p : 0 < d) (l : d ≤ length es) (q : n ≡ column (drop d es) (drop d cs)) where
-  pub column_next : (get_or cs (d - 1) 0 - 1) + get_or es (d - 1) 0 * n ≡ column (drop (d - 1) es) (drop (d - 1) cs)
-  column_next =
-      let e : d - 1 + 1 ≡ d = omega arith in
-      let k = within_length es cs w in
-      ap (λ t. (get_or cs (d - 1) 0 - 1) + get_or es (d - 1) 0 * t) (q ∙ ap (λ t. column (drop t es) (drop t cs)) (sym e))
-      ∙ sym (column_more es cs (d - 1) (omega arith) (omega arith))
+within_end : (es cs : List ℕ) (e c : ℕ) → length es ≡ length cs → within (es ++ e ∷ []) (cs ++ c ∷ []) ≡ (within es cs && ((leb 1 c && leb c e) && true))
+within_end [] [] e c h = refl
+within_end [] (d ∷ cs) e c h = absurd (omega arith)
+within_end (x ∷ es) [] e c h = absurd (omega arith)
+within_end (x ∷ es) (d ∷ cs) e c h =
+    let p = leb 1 d && leb d x in
+    ap (λ t. p && t) (within_end es cs e c (omega arith)) ∙ and_moved p (within es cs) ((leb 1 c && leb c e) && true)
 
-  pub column_fits : (get_or cs (d - 1) 0 - 1) + get_or es (d - 1) 0 * n < product es
-  column_fits =
-      let a = column_lt (drop (d - 1) es) (drop (d - 1) cs) (within_drop es cs (d - 1) w) in
-      let b = product_drop es (d - 1) (within_solid es cs w) in
-      omega (arith, column_next)
+place_end : (es cs : List ℕ) (e c : ℕ) → length es ≡ length cs → place (es ++ e ∷ []) (cs ++ c ∷ []) ≡ (c - 1) + e * place es cs
+place_end [] [] e c h = omega arith
+place_end [] (d ∷ cs) e c h = absurd (omega arith)
+place_end (x ∷ es) [] e c h = absurd (omega arith)
+place_end (x ∷ es) (d ∷ cs) e c h =
+    let a = place_end es cs e c (omega arith) in
+    let b = product_end es e in
+    let m : (d - 1) * (e * product es) ≡ e * ((d - 1) * product es) = sym (mul_assoc (d - 1) e (product es)) ∙ ap (λ t. t * product es) (mul_comm (d - 1) e) ∙ mul_assoc e (d - 1) (product es) in
+    ap (λ t. (d - 1) * t + place (es ++ e ∷ []) (cs ++ c ∷ [])) b ∙ ap (λ t. (d - 1) * (e * product es) + t) a
+    ∙ omega (arith, m, mul-add e ((d - 1) * product es) (place es cs))
+
+both_reversed : (es cs : List ℕ) → length es ≡ length cs → length (reverse es) ≡ length (reverse cs)
+both_reversed es cs h = length-reverse es ∙ h ∙ sym (length-reverse cs)
+
+product_reverse : (es : List ℕ) → product (reverse es) ≡ product es
+product_reverse [] = refl
+product_reverse (e ∷ es) = ap product (reverse_cons e es) ∙ product_end (reverse es) e ∙ ap (λ t. e * t) (product_reverse es)
+
+and_turned : (p q : Bool) → (p && (q && true)) ≡ (q && p)
+and_turned true true = refl
+and_turned true false = refl
+and_turned false true = refl
+and_turned false false = refl
+
+each_reverse : (es : List ℕ) → each (reverse es) ≡ each es
+each_reverse [] = refl
+each_reverse (e ∷ es) =
+    let p = leb 1 e && leb e 64 in
+    ap each (reverse_cons e es) ∙ list_all-append (λ x. leb 1 x && leb x 64) (reverse es) (e ∷ [])
+    ∙ ap (λ t. t && (p && true)) (each_reverse es) ∙ and_turned (each es) p
+
+pub proper_reverse : (es : List ℕ) → proper es ≡ true → proper (reverse es) ≡ true
+proper_reverse es h =
+    let p = proper_parts es h in
+    proper_from (reverse es) (record {
+      rank = omega (arith, length-reverse es, p.rank);
+      extents = each_reverse es ∙ p.extents;
+      places = omega (arith, product_reverse es, p.places);
+    })
+
+within_reverse : (es cs : List ℕ) → length es ≡ length cs → within (reverse es) (reverse cs) ≡ within es cs
+within_reverse [] [] h = refl
+within_reverse [] (c ∷ cs) h = absurd (omega arith)
+within_reverse (e ∷ es) [] h = absurd (omega arith)
+within_reverse (e ∷ es) (c ∷ cs) h =
+    let l : length es ≡ length cs = omega arith in
+    ap (λ t. within t (reverse (c ∷ cs))) (reverse_cons e es) ∙ ap (within (reverse es ++ e ∷ [])) (reverse_cons c cs)
+    ∙ within_end (reverse es) (reverse cs) e c (both_reversed es cs l)
+    ∙ ap (λ t. t && ((leb 1 c && leb c e) && true)) (within_reverse es cs l) ∙ and_turned (within es cs) (leb 1 c && leb c e)
+
+place_reverse : (es cs : List ℕ) → length es ≡ length cs → place (reverse es) (reverse cs) ≡ column es cs
+place_reverse [] [] h = refl
+place_reverse [] (c ∷ cs) h = absurd (omega arith)
+place_reverse (e ∷ es) [] h = absurd (omega arith)
+place_reverse (e ∷ es) (c ∷ cs) h =
+    let l : length es ≡ length cs = omega arith in
+    ap (λ t. place t (reverse (c ∷ cs))) (reverse_cons e es) ∙ ap (place (reverse es ++ e ∷ [])) (reverse_cons c cs)
+    ∙ place_end (reverse es) (reverse cs) e c (both_reversed es cs l)
+    ∙ ap (λ t. (c - 1) + e * t) (place_reverse es cs l)
+
+-- the row-major number in the shape turned round is the column-major one
+pub place_turned : (es cs : List ℕ) → place_in (reverse es) (reverse cs) ≡ column_in es cs
+place_turned es cs =
+    ⊎_elim
+    (λ (h : length es ≡ length cs).
+    ap (λ t. cond t (Some (place (reverse es) (reverse cs))) None) (within_reverse es cs h)
+    ∙ ap (λ t. cond (within es cs) (Some t) None) (place_reverse es cs h))
+    (λ (n : length es ≡ length cs → ⊥).
+    cond-false (within (reverse es) (reverse cs)) _ _ (within_uneven (reverse es) (reverse cs) (λ e. n (sym (length-reverse es) ∙ e ∙ length-reverse cs)))
+    ∙ sym (cond-false (within es cs) _ _ (within_uneven es cs n)))
+    (cases_eq (length es) (length cs))
+
+pub no_column : (es cs : List ℕ) → 8 < length cs → length es ≤ 4 → column_in es cs ≡ None
+no_column es cs h k = cond-false (within es cs) _ _ (within_uneven es cs (λ e. absurd (omega arith)))

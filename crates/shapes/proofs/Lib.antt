@@ -3,3 +3,4 @@ pub mod Extents
 pub mod Tables
 pub mod Asked
 pub mod Columns
+pub mod Held

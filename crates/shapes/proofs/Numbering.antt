@@ -3,6 +3,7 @@ use Rattle.std.proofs.Common.{◌≡◌, ℕ, zero, suc, ◌+◌, ◌-◌, ◌*�
 use native.Mathlib.Nat.{mul-div_right}
 use Rattle.std.proofs.lemmas.Bool.{and_parts, and_from, and_left, and_right, leb-true, le-leb, lt-leb, false≢true}
 use Rattle.std.proofs.lemmas.List.{drop_more, drop_all, at_drop_more, append_assoc, take_more_set}
+use Rattle.std.specs.List.{list_all, zip}
 use Rattle.std.proofs.lemmas.Nat.{div-mul-add, mod-mul-add, div_below, mul-add-lt}
 use Rattle.indices.specs.Places.{within, product, place, unplace}
 
@@ -33,6 +34,13 @@ within_uneven [] [] h = absurd (h refl)
 within_uneven [] (c ∷ cs) h = refl
 within_uneven (e ∷ es) [] h = refl
 within_uneven (e ∷ es) (c ∷ cs) h = and_right (leb 1 c && leb c e) (within es cs) (within_uneven es cs (λ p. h (ap suc p)))
+
+-- each coordinate beside its extent
+pub within_zip : (es cs : List ℕ) → length es ≡ length cs → within es cs ≡ list_all (λ (p : ℕ × ℕ). leb 1 p.1 && leb p.1 p.0) (zip es cs)
+within_zip [] [] h = refl
+within_zip [] (c ∷ cs) h = absurd (omega arith)
+within_zip (e ∷ es) [] h = absurd (omega arith)
+within_zip (e ∷ es) (c ∷ cs) h = ap (λ t. (leb 1 c && leb c e) && t) (within_zip es cs (omega arith))
 
 pub within_at : (es cs : List ℕ) (d : ℕ) → within es cs ≡ true → d < length es → (1 ≤ get_or cs d 0) × (get_or cs d 0 ≤ get_or es d 0)
 within_at [] cs d h l = absurd (omega arith)

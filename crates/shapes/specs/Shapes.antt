@@ -8,22 +8,23 @@
 --   index_in              the index of a row-major number, if the shape has as many places
 --   shape_answer, rank_answer, extent_answer   a variable's shape, rank and extent; refusal 1 where there is none
 --   place_answer          the number of a place through all variables; refusals 1, and 2 where it does not lie in the shape
-use Rattle.std.specs.Prelude.{ℕ, ◌+◌, Bool, true, cond, ◌&&◌, List, [], ◌∷◌, map, length, take, drop, Some, None, Option, ◌==◌, nat_le, nat_lt}
+use Rattle.std.specs.Prelude.{ℕ, ◌+◌, Bool, cond, ◌&&◌, List, [], ◌∷◌, map, length, take, drop, Some, None, Option, ◌==◌, nat_le, nat_lt}
+use Rattle.std.specs.List.{list_all}
 use Rattle.shapes.specs.declared.declaration.Declaration.{Declaration}
 use Rattle.shapes.specs.declared.shape.Shape.{Shape}
 use Rattle.shapes.specs.declared.table.Table.{Table}
 use Rattle.refusals.specs.Refusals.{Answer, done, refused}
+use Rattle.indices.specs.Coordinates.{coordinates}
 use Rattle.indices.specs.Places.{proper, within, product, place, unplace, column, pick, at1, has, cell}
 
 abbrev pub extents_of : Shape → List ℕ
-extents_of s = take s.rank s.extents
+extents_of s = coordinates s.extents
 
 abbrev pub shapes_of : Table → List (List ℕ)
 shapes_of t = map extents_of (take t.len t.shapes)
 
 abbrev pub zeros : List ℕ → Bool
-zeros [] = true
-zeros (e ∷ es) = e == 0 && zeros es
+zeros es = list_all (λ e. e == 0) es
 
 abbrev pub valid : Declaration → Bool
 valid d = nat_le d.rank 4 && (proper (take d.rank d.extents) && zeros (drop d.rank d.extents))

@@ -1,6 +1,6 @@
 // How tables of shapes come of declarations.
-ghost use Rattle.std.specs.Prelude.{◌≡◌, [], ◌∷◌, ◌++◌, length, if◌then◌else◌, nat_lt};
-ghost use Rattle.refusals.specs.Refusals.{answer};
+ghost use Rattle.std.specs.Prelude.{◌≡◌, [], ◌∷◌, ◌++◌, length, if◌then◌else◌, is_ok, nat_lt};
+ghost use Rattle.refusals.specs.Refusals.{answer, answered, done, refused};
 ghost use Rattle.shapes.specs.Shapes.{extents_of, shapes_of, declared as declared_answer};
 
 use super::declaration::Declaration;
@@ -18,34 +18,36 @@ impl Table {
         }
     }
 
-    // One shape more; false where the table is full.
-    pub fn add(&mut self, shape: Shape) -> bool
-        ensures test { result ≡ nat_lt (length (shapes_of self.old)) 16 }
-        ensures after { shapes_of self.new ≡ (if result then shapes_of self.old ++ extents_of shape ∷ [] else shapes_of self.old) }
+    // One shape more, unless the table is full.
+    pub fn add(&mut self, shape: Shape) -> Result<(), Refusal>
+        ensures answer { answered result ≡ (if nat_lt (length (shapes_of self.old)) 16 then done tt else refused 4 0) }
+        ensures after { shapes_of self.new ≡ (if is_ok result then shapes_of self.old ++ extents_of shape ∷ [] else shapes_of self.old) }
     {
         let k = self.len;
         if k >= 16 {
-            return false;
+            return Err(Refusal::TooManyDeclarations);
         }
         self.shapes[k] = shape;
         self.len = k + 1;
-        true
+        Ok(())
     }
+}
 
-    // The table of these declarations.
-    pub fn of(declared: &[Declaration]) -> Result<Table, Refusal>
-        ensures { answer shapes_of result ≡ declared_answer declared.now }
-    {
+// The table of these declarations.
+impl TryFrom<&[Declaration]> for Table {
+    type Error = Refusal;
+
+    ghost try_from_gives = { λ ds r. answer shapes_of r ≡ declared_answer ds.now };
+
+    fn try_from(declared: &[Declaration]) -> Result<Table, Refusal> {
         if declared.len() > 16 {
             return Err(Refusal::TooManyDeclarations);
         }
         let mut table = Table::empty();
-        for k in 0..declared.len() {
-            match Shape::of(&declared[k]) {
-                Some(shape) => {
-                    let _ = table.add(shape);
-                }
-                None => return Err(Refusal::BadDeclaration(k + 1)),
+        for (k, declaration) in declared.iter().enumerate() {
+            match Shape::try_from(declaration) {
+                Ok(shape) => table.add(shape)?,
+                Err(_) => return Err(Refusal::BadDeclaration(k + 1)),
             }
         }
         Ok(table)

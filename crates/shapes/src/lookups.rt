@@ -1,5 +1,5 @@
 // What a table of shapes answers about its variables.
-ghost use Rattle.std.specs.Prelude.{◌≡◌, ◌*◌, ◌≤◌, ◌&&◌, length, take};
+ghost use Rattle.std.specs.Prelude.{◌≡◌, ◌*◌, ◌≤◌, ◌&&◌, map, length, take};
 ghost use Rattle.indices.specs.Places.{total as total_of, has, pick, within};
 ghost use Rattle.refusals.specs.Refusals.{answered, answer};
 ghost use Rattle.shapes.specs.Shapes.{extents_of, shapes_of, shape_answer, rank_answer, extent_answer, place_answer};
@@ -14,6 +14,15 @@ impl Table {
         ensures { result ≡ length (shapes_of self.now) }
     {
         self.len
+    }
+
+    // The shapes, variable after variable.
+    pub fn shapes(&self) -> &[Shape]
+        ensures shapes { map extents_of result.now ≡ shapes_of self.now }
+        ensures count { length result.now ≡ length (shapes_of self.now) }
+        ensures few { length result.now ≤ 16 }
+    {
+        &self.shapes[..self.len]
     }
 
     // The shape of a variable, from 1.
@@ -66,10 +75,7 @@ impl Table {
     pub fn contains(&self, v: usize, index: &[u16]) -> bool
         ensures { result ≡ (has (shapes_of self.now) v && within (pick (shapes_of self.now) v) index.now) }
     {
-        match self.shape(v) {
-            Ok(shape) => shape.contains(index),
-            Err(_) => false,
-        }
+        self.shape(v).is_ok_and(|shape| shape.contains(index))
     }
 
     // How many places the first n variables have.
@@ -79,8 +85,8 @@ impl Table {
         ensures few { result ≤ 4096 * n }
     {
         let mut sum: usize = 0;
-        for k in 0..n {
-            sum += self.shapes[k].size();
+        for shape in &self.shapes[..n] {
+            sum += shape.size();
         }
         sum
     }

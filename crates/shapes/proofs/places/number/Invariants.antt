@@ -1,6 +1,6 @@
-use Rattle.std.proofs.Common.{◌≡◌, ◌+◌, ◌*◌, drop}
+use Rattle.std.proofs.Common.{◌≡◌, ◌+◌, ◌*◌, length, drop}
 use Rattle.indices.specs.Places.{product, place}
 use Rattle.shapes.proofs.places.number.Given as goal
 
-abbrev pub invariant-loop-d : goal.invariant-loop-d
-invariant-loop-d l = l.n * product (drop l.d l.es) + place (drop l.d l.es) (drop l.d l.index) ≡ place l.es l.index
+abbrev pub invariant-loop-e : goal.invariant-loop-e
+invariant-loop-e l = l.n * product (drop (length l.yielded) l.es) + place (drop (length l.yielded) l.es) (drop (length l.yielded) l.index) ≡ place l.es l.index

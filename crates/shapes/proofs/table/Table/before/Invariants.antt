@@ -3,5 +3,5 @@ use Rattle.indices.specs.Places.{total}
 use Rattle.shapes.specs.Shapes.{shapes_of}
 use Rattle.shapes.proofs.table.Table.before.Given as goal
 
-abbrev pub invariant-loop-k : goal.invariant-loop-k
-invariant-loop-k l = (l.sum ≡ total (take l.k (shapes_of l.self))) × (l.sum ≤ 4096 * l.k)
+abbrev pub invariant-loop-shape : goal.invariant-loop-shape
+invariant-loop-shape l = (l.sum ≡ total (take l.shape-index (shapes_of l.self))) × (l.sum ≤ 4096 * l.shape-index)

@@ -18,7 +18,7 @@ overflow_add-result c =
     let t = c.args.self.now in let ss = shapes_of t in
     let s = c.in_ok-shape.field-0 in
     let p = done_since (has ss c.args.v) _ (pick ss c.args.v) 1 0 c.in_ok-shape.ensures in
-    let q = some_since (within (extents_of s) c.args.index.now) _ (place (extents_of s) c.args.index.now) c.in-Some.ensures in
+    let q = some_since (within (extents_of s) c.args.index.now) _ (place (extents_of s) c.args.index.now) c.in-Some.ensures.value in
     let l = place_lt (extents_of s) c.args.index.now q.0 in
     let f = (proper_parts (extents_of s) s.sound).places in
     let b = counted_parts (length ss) c.args.v p.0 in

@@ -1,6 +1,6 @@
 use Rattle.std.proofs.Common.{◌≡◌, ◌+◌, map, take, drop}
 use Rattle.shapes.specs.Shapes.{shapes_of, declared_extents, judged}
-use Rattle.shapes.proofs.table.Table.of.Given as goal
+use Rattle.shapes.proofs.declaring.TableTryFromRefSliceDeclaration.try_from.Given as goal
 
 abbrev pub invariant-loop-k : goal.invariant-loop-k
 invariant-loop-k l =

@@ -1,24 +1,14 @@
-use Rattle.std.proofs.Common.{◌≡◌, ℕ, ◌+◌, ◌/◌, ◌%◌, ◌++◌, length, get_or, take, drop, set, sym, ap, ◌∙◌, subst, div-le_self, arith, length-set}
+use Rattle.std.proofs.Common.{◌≡◌, ℕ, ◌+◌, ◌/◌, ◌%◌, ◌++◌, get_or, take, drop, set, sym, ap, ◌∙◌, subst, arith, length-set}
 use native.Mathlib.Nat.{mod-le}
-use Rattle.std.proofs.lemmas.List.{drop_all, append-nil}
 use Rattle.indices.specs.Places.{product, unplace}
-use Rattle.shapes.proofs.Extents.{each_at, each_solid}
+use Rattle.shapes.proofs.Extents.{each_solid}
 use Rattle.shapes.proofs.Numbering.{block_more, block_pos, index_more}
-use Rattle.shapes.proofs.places.coordinates_of.Goals as goal
-
-pub nonzero_div-block : goal.nonzero_div-block
-nonzero_div-block c = (each_at c.args.es.now c.loop-d.d c.requires.sound c.loop-d-test.true).0
+use Rattle.shapes.proofs.places.index_of.Goals as goal
 
 pub nonzero_div-coords : goal.nonzero_div-coords
 nonzero_div-coords c =
     let es = c.args.es.now in let d = c.loop-d.d in let s = each_solid es c.requires.sound in
     rw (c.loop-d.invariant.0, block_more es s d c.loop-d-test.true) (block_pos es s (d + 1))
-
-pub overflow_cast-coords : goal.overflow_cast-coords
-overflow_cast-coords c = omega (arith, div-le_self c.loop-d.left (c.loop-d.block / get_or c.args.es.now c.loop-d.d 0), c.requires.places, c.requires.inside)
-
-pub overflow_add-coords : goal.overflow_add-coords
-overflow_add-coords c = omega (arith, div-le_self c.loop-d.left (c.loop-d.block / get_or c.args.es.now c.loop-d.d 0), c.requires.places, c.requires.inside)
 
 pub nonzero_rem-left : goal.nonzero_rem-left
 nonzero_rem-left c =
@@ -34,10 +24,3 @@ loop-d-preserved c =
     let q = index_more es s d n out (unplace es c.args.number) c.loop-d-test.true (omega (arith, c.requires.rank, c.loop-d.invariant.2)) c.loop-d.invariant.3 in
     let P : ℕ → Type 0 = λ t. take (d + 1) (set out d (n / t + 1)) ++ unplace (drop (d + 1) es) (n % t) ≡ unplace es c.args.number in
     (b, omega (arith, mod-le n (c.loop-d.block / get_or es d 0)), simp length-set c.loop-d.invariant.2, subst P (sym b) q)
-
-pub returns : goal.returns
-returns c =
-    let es = c.args.es.now in let d = c.loop-d.d in let out = c.loop-d.coords in
-    let e : length es ≡ d = omega arith in
-    let a = drop_all d es (omega arith) in
-    ap (λ t. take t out) e ∙ sym (append-nil (take d out)) ∙ ap (λ t. take d out ++ unplace t c.loop-d.left) (sym a) ∙ c.loop-d.invariant.3
