@@ -1,36 +1,36 @@
 // An element: a defined value or the undefined one, with the rules for zero and for undefined operands.
-ghost use Rattle.std.specs.Prelude.{◌≡◌};
-ghost use Rattle.elements.specs.Elements.{element, null, text, algebra_of};
+ghost use Rattle.std.specs.Prelude.{◌≡◌, Option};
+ghost use Rattle.elements.specs.Elements.{element, null, strict, text, algebra_of};
 ghost use Rattle.elements.specs.Soundness.{algebra_lawful, algebra_strict};
 
 use super::kind::Kind;
 use super::quantity::Quantity;
 use std::fmt;
 
+// A newtype, since what is written for an element is said here. None is the undefined one.
 #[derive(Clone, Copy, PartialEq, Eq, Debug)]
-pub enum Element<Q> {
-    Defined(Q),
-    Undefined,
-}
-
-// The element that an operation's result is.
-pub fn of<Q>(res: Option<Q>) -> Element<Q>
-    ensures { result ≡ element res }
-{
-    match res {
-        Some(x) => Element::Defined(x),
-        None => Element::Undefined,
-    }
-}
+pub struct Element<Q>(pub Option<Q>);
 
 impl<Q: Quantity> Element<Q> {
-    fn null(self) -> bool
-        ensures { result ≡ null Q.Quantity.arithmetic self }
+    // The element of this number, or undefined outside the range.
+    pub fn of(number: Q::Number) -> Element<Q>
+        ensures { result ≡ element (Q.made number) }
     {
-        match self {
-            Element::Defined(x) => x.is_zero(),
-            Element::Undefined => false,
-        }
+        Element(Q::of(number))
+    }
+
+    fn null(self) -> bool
+        ensures { result ≡ null Q.arithmetic self }
+    {
+        self.0.is_some_and(Q::is_zero)
+    }
+
+    // What an operation on defined values makes of two elements.
+    fn strict<F: FnOnce(Q, Q) -> Option<Q>>(self, other: Element<Q>, operation: F) -> Element<Q>
+        requires { F.IsAlwaysCallable operation }
+        ensures { (f : Q → Q → Option Q) → ((x y : Q) (r : Option Q) → F.post operation x y r → r ≡ f x y) → result ≡ strict f self other }
+    {
+        Element(self.0.zip(other.0).and_then(|(x, y)| operation(x, y)))
     }
 }
 
@@ -38,9 +38,9 @@ impl<Q: fmt::Display> fmt::Display for Element<Q> {
     ghost output = { text Q.Display.output };
 
     fn fmt<W: fmt::Write>(&self, f: &mut fmt::Formatter<W>) -> fmt::Result {
-        match self {
-            Element::Defined(x) => write!(f, "{x}"),
-            Element::Undefined => write!(f, "undefined"),
+        match &self.0 {
+            Some(x) => write!(f, "{x}"),
+            None => write!(f, "undefined"),
         }
     }
 }
@@ -57,61 +57,43 @@ impl<Q: Quantity> Kind for Element<Q> {
     }
 
     fn zero() -> Element<Q> {
-        Element::Defined(Q::zero())
+        Element(Some(Q::zero()))
     }
 
     fn undefined() -> Element<Q> {
-        Element::Undefined
+        Element(None)
     }
 
     fn sum(self, other: Element<Q>) -> Element<Q> {
-        match (self, other) {
-            (Element::Defined(x), Element::Defined(y)) => of(x.sum(y)),
-            _ => Element::Undefined,
-        }
+        self.strict(other, Q::sum)
     }
 
     fn difference(self, other: Element<Q>) -> Element<Q> {
-        match (self, other) {
-            (Element::Defined(x), Element::Defined(y)) => of(x.difference(y)),
-            _ => Element::Undefined,
-        }
+        self.strict(other, Q::difference)
     }
 
     fn product(self, other: Element<Q>) -> Element<Q> {
         if self.null() || other.null() {
-            return Element::Defined(Q::zero());
+            return Self::zero();
         }
-        match (self, other) {
-            (Element::Defined(x), Element::Defined(y)) => of(x.product(y)),
-            _ => Element::Undefined,
-        }
+        self.strict(other, Q::product)
     }
 
     fn quotient(self, other: Element<Q>) -> Element<Q> {
         if self.null() {
-            return Element::Defined(Q::zero());
+            return Self::zero();
         }
-        match (self, other) {
-            (Element::Defined(x), Element::Defined(y)) => of(x.quotient(y)),
-            _ => Element::Undefined,
-        }
+        self.strict(other, Q::quotient)
     }
 
     fn code(self) -> u64 {
-        match self {
-            Element::Defined(x) => x.code(),
-            Element::Undefined => Q::blank(),
-        }
+        self.0.map_or(Q::blank(), Q::code)
     }
 
     fn decode(code: u64) -> Option<Element<Q>> {
         if code == Q::blank() {
-            return Some(Element::Undefined);
+            return Some(Self::undefined());
         }
-        match Q::decode(code) {
-            Some(x) => Some(Element::Defined(x)),
-            None => None,
-        }
+        Q::decode(code).map(|x| Element(Some(x)))
     }
 }

@@ -1,17 +1,15 @@
 // Legs: the cost of going from one place to the next, or no way at all.
 ghost use Rattle.std.specs.Prelude.{◌≡◌, Some, decimal};
 ghost use Rattle.elements.specs.Legs.{cost, way, text, legs as arithmetic_of_legs};
-ghost use Rattle.elements.specs.Elements.{element};
 ghost use Rattle.elements.specs.Soundness.{legs_sound};
 
 use super::cost::Cost;
-use super::element;
 use super::element::Element;
 use super::quantity::Quantity;
 use std::fmt;
 
-// "No way" is this kind's zero, and dearer than every cost.
-#[derive(Clone, Copy, PartialEq, Eq, Debug)]
+// "No way" is this kind's zero, and dearer than every cost. An enum: as an Option inside an element's Option, no way would read like undefined.
+#[derive(Clone, Copy, PartialEq, Eq, PartialOrd, Ord, Debug)]
 pub enum Leg {
     Way(Cost),
     NoWay,
@@ -19,15 +17,8 @@ pub enum Leg {
 
 pub type Legs = Element<Leg>;
 
-// A leg of this cost, or undefined above the range.
-pub fn costing(value: u64) -> Legs
-    ensures { result ≡ element (way value) }
-{
-    element::of(Leg::of(value))
-}
-
 impl Cost {
-    // This cost, if it is in the range.
+    // This cost, if it is in the range. No TryFrom: each use wants an Option, and would throw the error away.
     pub fn of(value: u64) -> Option<Cost>
         ensures { result ≡ cost value }
     {
@@ -43,18 +34,6 @@ impl Cost {
         ensures { result ≡ self.value }
     {
         self.value
-    }
-}
-
-impl Leg {
-    // A leg of this cost, if it is in the range.
-    pub fn of(value: u64) -> Option<Leg>
-        ensures { result ≡ way value }
-    {
-        match Cost::of(value) {
-            Some(cost) => Some(Leg::Way(cost)),
-            None => None,
-        }
     }
 }
 
@@ -79,9 +58,17 @@ impl fmt::Display for Leg {
 }
 
 impl Quantity for Leg {
+    type Number = u64;
+
     ghost arithmetic = { arithmetic_of_legs };
 
+    ghost made = { way };
+
     ghost sound = { legs_sound };
+
+    fn of(number: u64) -> Option<Leg> {
+        Cost::of(number).map(Leg::Way)
+    }
 
     fn number() -> u8 {
         2
@@ -92,72 +79,45 @@ impl Quantity for Leg {
     }
 
     fn is_zero(self) -> bool {
-        match self {
-            Leg::Way(_) => false,
-            Leg::NoWay => true,
-        }
+        self == Leg::NoWay
     }
 
     fn sum(self, other: Leg) -> Option<Leg> {
-        match self {
-            Leg::Way(a) => match other {
-                Leg::Way(b) => Some(if b.value < a.value { other } else { self }),
-                Leg::NoWay => Some(self),
-            },
-            Leg::NoWay => Some(other),
-        }
+        Some(self.min(other))
     }
 
     fn difference(self, other: Leg) -> Option<Leg> {
-        match self {
-            Leg::Way(a) => match other {
-                Leg::Way(b) => Some(if a.value < b.value { self } else { Leg::NoWay }),
-                Leg::NoWay => Some(self),
-            },
-            Leg::NoWay => Some(Leg::NoWay),
-        }
+        Some(if self < other { self } else { Leg::NoWay })
     }
 
     fn product(self, other: Leg) -> Option<Leg> {
-        match self {
-            Leg::Way(a) => match other {
-                Leg::Way(b) => Leg::of(a.value as u64 + b.value as u64),
-                Leg::NoWay => Some(Leg::NoWay),
-            },
-            Leg::NoWay => Some(Leg::NoWay),
+        match (self, other) {
+            (Leg::Way(a), Leg::Way(b)) => Leg::of(u64::from(a.value) + u64::from(b.value)),
+            _ => Some(Leg::NoWay),
         }
     }
 
     fn quotient(self, other: Leg) -> Option<Leg> {
-        match self {
-            Leg::Way(a) => match other {
-                Leg::Way(b) => {
-                    if a.value < b.value {
-                        return None;
-                    }
-                    Leg::of(a.value as u64 - b.value as u64)
-                }
-                Leg::NoWay => None,
-            },
-            Leg::NoWay => Some(Leg::NoWay),
+        match (self, other) {
+            (Leg::Way(a), Leg::Way(b)) => Leg::of(u64::from(a.value.checked_sub(b.value)?)),
+            (Leg::Way(_), Leg::NoWay) => None,
+            (Leg::NoWay, _) => Some(Leg::NoWay),
         }
     }
 
     fn code(self) -> u64 {
         match self {
-            Leg::Way(cost) => cost.value as u64 + 2,
+            Leg::Way(cost) => u64::from(cost.value) + 2,
             Leg::NoWay => 1,
         }
     }
 
     fn decode(code: u64) -> Option<Leg> {
-        if code == 0 {
-            return None;
+        match code {
+            0 => None,
+            1 => Some(Leg::NoWay),
+            _ => Leg::of(code - 2),
         }
-        if code == 1 {
-            return Some(Leg::NoWay);
-        }
-        Leg::of(code - 2)
     }
 
     fn blank() -> u64 {

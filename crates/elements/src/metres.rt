@@ -2,37 +2,16 @@
 ghost use Rattle.std.specs.Prelude.{◌≡◌, pos, Some, MatchOption};
 ghost use Rattle.std.specs.Fmt.{signed_decimal};
 ghost use Rattle.elements.specs.Metres.{distance, metres as arithmetic_of_metres, Truncated};
-ghost use Rattle.elements.specs.Elements.{element};
 ghost use Rattle.elements.specs.Soundness.{metres_sound};
 
 use super::distance::Distance;
-use super::element;
 use super::element::Element;
 use super::quantity::Quantity;
 use std::fmt;
 
 pub type Metres = Element<Distance>;
 
-// So many metres, or undefined outside the range.
-pub fn metres(value: i64) -> Metres
-    ensures { result ≡ element (distance value) }
-{
-    element::of(Distance::of(value))
-}
-
 impl Distance {
-    // The distance of so many metres, if it is in the range.
-    pub fn of(value: i64) -> Option<Distance>
-        ensures { result ≡ distance value }
-    {
-        if value < -2_147_483_647 || value > 2_147_483_647 {
-            return None;
-        }
-        Some(Distance {
-            metres: value as i32,
-        })
-    }
-
     // The number of metres.
     pub fn value(self) -> i32
         ensures { result ≡ self.metres }
@@ -57,9 +36,22 @@ impl fmt::Display for Distance {
 }
 
 impl Quantity for Distance {
+    type Number = i64;
+
     ghost arithmetic = { arithmetic_of_metres };
 
+    ghost made = { distance };
+
     ghost sound = { metres_sound };
+
+    fn of(number: i64) -> Option<Distance> {
+        if number < -2_147_483_647 || number > 2_147_483_647 {
+            return None;
+        }
+        Some(Distance {
+            metres: number as i32,
+        })
+    }
 
     fn number() -> u8 {
         1
@@ -100,10 +92,7 @@ impl Quantity for Distance {
     }
 
     fn decode(code: u64) -> Option<Distance> {
-        if code > 4_294_967_295 {
-            return None;
-        }
-        Distance::of(code as i64 - 2_147_483_648)
+        Distance::of(i64::try_from(code).ok()? - 2_147_483_648)
     }
 
     fn blank() -> u64 {

@@ -1,10 +1,19 @@
 // What a kind says of its defined values; `element` makes a kind of it.
-ghost use Rattle.std.specs.Prelude.{◌≡◌};
+ghost use Rattle.std.specs.Prelude.{◌≡◌, Option};
 ghost use Rattle.elements.specs.Arithmetic.{Arithmetic, Sound};
 
 // An operation gives `None` where its result is undefined.
 pub trait Quantity: Copy {
+    // The type of number that a value is made from.
+    type Number;
+
     ghost arithmetic: { Arithmetic Self };
+
+    ghost made: { Self.Number → Option Self };
+
+    // The value of this number, if it is in the range.
+    fn of(number: Self::Number) -> Option<Self>
+        ensures { result ≡ made number };
 
     fn number() -> u8
         ensures { result ≡ arithmetic.number };

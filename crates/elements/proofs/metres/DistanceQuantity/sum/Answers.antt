@@ -3,6 +3,4 @@ use Rattle.elements.specs.Distances.{worked_out, sum_fits}
 use Rattle.elements.proofs.metres.DistanceQuantity.sum.Goals as goal
 
 pub returns : goal.returns
-returns c =
-    let x = c.args.self in let y = c.args.other in
-    worked_out ◌+ℤ◌ c.wide.result c.wide-2.result x y c.wide.ensures c.wide-2.ensures c.of.result (sum_fits x y) c.of.ensures
+returns c = worked_out ◌+ℤ◌ _ _ c.args.self c.args.other c.wide.ensures c.wide-2.ensures _ (sum_fits c.args.self c.args.other) c.of.ensures
