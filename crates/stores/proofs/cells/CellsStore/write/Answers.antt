@@ -24,7 +24,6 @@ returns g c =
     let f : total ss ≤ length xs = omega (arith, s.holds, s.elements.ok.0) in
     record {
       answer = ap (λ t. and_then t (λ _. done tt)) c.in_ok-at.ensures ∙ sym (flat_write a ss xs v i x);
-      kept = tt;
       same = λ e. absurd (both_ways true e refl);
       written = subst (λ n. Written true (flat a.zero ss xs) v i x (flat a.zero ss (set xs n x))) (sym p.number) (flat_written a ss xs v i x p.known p.inside f);
       table = refl;
