@@ -1,5 +1,5 @@
 -- Elements in a list, variable after variable: a lawful meaning, read and written. Assumes nothing.
-use Rattle.std.specs.Prelude.{◌≡◌, ℕ, ◌≤◌, Bool, true, false, cond, ◌||◌, List, [], ◌∷◌, length, slice_index_or, slice_set, refl}
+use Rattle.std.specs.Prelude.{◌≡◌, ℕ, ◌<◌, ◌≤◌, Bool, true, false, cond, ◌||◌, List, [], ◌∷◌, length, slice_index_or, slice_set, refl}
 use Rattle.std.proofs.Common.{arith}
 use Rattle.std.proofs.lemmas.Bool.{and_parts, both_ways}
 use Rattle.std.proofs.lemmas.List.{get_or-set_same, get_or-set_other}
@@ -9,7 +9,7 @@ use Rattle.indices.specs.Places.{within, pick, has, total, each, cell}
 use Rattle.refusals.specs.Refusals.{done, refused, and_then}
 use Rattle.shapes.specs.Shapes.{shapes_of, place_answer}
 use Rattle.shapes.proofs.Extents.{proper_parts, each_parts}
-use Rattle.shapes.proofs.Tables.{shapes_length, proper_pick, cell_lt, cell_other}
+use Rattle.shapes.proofs.Tables.{shapes_length, proper_pick, cell_lt, cell_other, placed}
 use Rattle.stores.specs.Meaning.{Lawful, Covers, Written, read_answer, write_answer, in_shape}
 use Rattle.stores.specs.Cells.{flat}
 
@@ -28,6 +28,10 @@ flat_lawful z t xs = record {
   alike = λ v w d e _ _ p. p;
   spare = λ v i p q. absurd (both_ways (in_shape (flat z (shapes_of t) xs) v i) q p);
 }
+
+-- the number of a place that was found is below that of as many elements as there are places
+pub placed_lt : (ss : List (List ℕ)) (v : ℕ) (i : List ℕ) (k n : ℕ) → done k ≡ place_answer ss v i → total ss ≤ n → k < n
+placed_lt ss v i k n e f = let p = placed ss v i k e in omega (arith, cell_lt ss v i p.known p.inside, p.number)
 
 module _ {E : Type 0} (a : Algebra E) (ss : List (List ℕ)) (xs : List E) (v : ℕ) (i : List ℕ) where
   -- a read through the number of the place

@@ -1,7 +1,7 @@
 // Cells: a store that keeps its elements in a vector, variable after variable, the last coordinate running fastest.
-ghost use Rattle.std.specs.Prelude.{◌≡◌, ◌≤◌, false, length, is_ok, if◌then◌else◌, vec_len, slice_index_or, slice_set};
+ghost use Rattle.std.specs.Prelude.{◌≡◌, ◌≤◌, false, length, is_ok, IfOk, if◌then◌else◌, vec_len, slice_index_or, slice_set};
 ghost use Rattle.indices.specs.Places.{total, cell};
-ghost use Rattle.refusals.specs.Refusals.{answered, done, and_then, opened, held};
+ghost use Rattle.refusals.specs.Refusals.{answer, answered, done, and_then, opened, held};
 ghost use Rattle.shapes.specs.Shapes.{shapes_of, place_answer};
 ghost use Rattle.stores.specs.Cells.{flat, cells_answer};
 ghost use Rattle.stores.specs.Meaning.{read_answer, write_answer, Written};
@@ -27,16 +27,9 @@ impl<K: Kind> Cells<K> {
         ensures answer { opened (λ c. shapes_of c.table) result ≡ cells_answer declared.now (vec_len elements) }
         ensures memory { held (λ c. c.elements) result ≡ elements }
     {
-        match Table::of(declared) {
-            Ok(table) => {
-                if table.total() > elements.len() {
-                    return Err(Declined {
-                        refusal: Refusal::TooFewElements,
-                        value: elements,
-                    });
-                }
-                Ok(Cells { table, elements })
-            }
+        // the elements move into one of two branches, so no closure can take them
+        match judge(declared, elements.len()) {
+            Ok(table) => Ok(Cells { table, elements }),
             Err(refusal) => Err(Declined {
                 refusal,
                 value: elements,
@@ -53,25 +46,27 @@ impl<K: Kind> Cells<K> {
     }
 }
 
+// The declared shapes, if so many elements are enough for them.
+fn judge(declared: &[Declaration], elements: usize) -> Result<Table, Refusal>
+    ensures answer { answer shapes_of result ≡ cells_answer declared.now elements }
+    ensures enough { IfOk result (λ t. total (shapes_of t) ≤ elements) }
+{
+    let table = Table::of(declared)?;
+    if table.total() > elements {
+        return Err(Refusal::TooFewElements);
+    }
+    Ok(table)
+}
+
 impl<K: Kind> Store for Cells<K> {
     type Item = K;
 
     ghost meaning = { λ c. flat K.Kind.algebra.zero (shapes_of c.table) c.elements.items };
 
-    ghost keeps = { λ _. Unit {0} };
+    ghost lawful = { λ s. flat_lawful K.Kind.algebra.zero s.table s.elements.items };
 
-    ghost lawful = { λ s k. flat_lawful K.Kind.algebra.zero s.table s.elements.items };
-
-    fn variables(&self) -> usize {
-        self.table.len()
-    }
-
-    fn rank(&self, v: usize) -> Result<usize, Refusal> {
-        self.table.rank(v)
-    }
-
-    fn extent(&self, v: usize, d: usize) -> Result<u16, Refusal> {
-        self.table.extent(v, d)
+    fn table(&self) -> &Table {
+        &self.table
     }
 
     fn rounded(&self, v: usize, d: usize) -> Result<u16, Refusal> {
@@ -88,7 +83,6 @@ impl<K: Kind> Store for Cells<K> {
 
     fn write(&mut self, v: usize, index: &[u16], x: K) -> Result<(), Refusal>
         ensures answer { answered result ≡ write_answer K.Kind.algebra (flat K.Kind.algebra.zero (shapes_of self.old.table) self.old.elements.items) v index.now x }
-        ensures kept { Unit {0} }
         ensures same { is_ok result ≡ false → self.new ≡ self.old }
         ensures written { Written (is_ok result) (flat K.Kind.algebra.zero (shapes_of self.old.table) self.old.elements.items) v index.now x (flat K.Kind.algebra.zero (shapes_of self.new.table) self.new.elements.items) }
         ensures table { self.new.table ≡ self.old.table }

@@ -5,6 +5,7 @@
 
 pub mod cells;
 pub mod matching;
+pub mod mismatch;
 pub mod store;
 #[cfg(test)]
 mod tests;
