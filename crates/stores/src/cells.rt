@@ -51,7 +51,7 @@ fn judge(declared: &[Declaration], elements: usize) -> Result<Table, Refusal>
     ensures answer { answer shapes_of result ≡ cells_answer declared.now elements }
     ensures enough { IfOk result (λ t. total (shapes_of t) ≤ elements) }
 {
-    let table = Table::of(declared)?;
+    let table = Table::try_from(declared)?;
     if table.total() > elements {
         return Err(Refusal::TooFewElements);
     }

@@ -1,10 +1,13 @@
 // Whether a store has just the shapes that are wanted.
-ghost use Rattle.std.specs.Prelude.{◌≡◌};
-ghost use Rattle.shapes.specs.Shapes.{shapes_of};
+ghost use Rattle.std.specs.Prelude.{◌≡◌, not};
+ghost use Rattle.std.specs.List.{position, zip};
+ghost use Rattle.indices.specs.Dimensions.{same};
+ghost use Rattle.shapes.specs.Shapes.{extents_of, shapes_of};
 ghost use Rattle.stores.specs.Matching.{difference as difference_of};
 
 use super::mismatch::Mismatch;
 use super::store::Store;
+use shapes::shape::Shape;
 use shapes::table::Table;
 
 // Ok where the store has just these shapes.
@@ -15,13 +18,17 @@ pub fn difference<S: Store>(wanted: &Table, s: &S) -> Result<(), Mismatch>
     if wanted.len() != own.len() {
         return Err(Mismatch::Count);
     }
-    for k in 0..wanted.len() {
-        let (Ok(one), Ok(other)) = (wanted.shape(k + 1), own.shape(k + 1)) else {
-            return Err(Mismatch::Shape(k + 1));
-        };
-        if one.extents() != other.extents() {
-            return Err(Mismatch::Shape(k + 1));
-        }
+    match first_other(wanted.shapes(), own.shapes()) {
+        Some(k) => Err(Mismatch::Shape(k + 1)),
+        None => Ok(()),
     }
-    Ok(())
+}
+
+// Where the first shape stands that is another than the one beside it, from 0.
+fn first_other(ones: &[Shape], others: &[Shape]) -> Option<usize>
+    ensures { result ≡ position (λ p. not (same (extents_of p.0) (extents_of p.1))) (zip ones.now others.now) }
+{
+    ones.iter()
+        .zip(others)
+        .position(|(one, other)| one.extents() != other.extents())
 }

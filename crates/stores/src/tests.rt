@@ -1,7 +1,7 @@
 // What opening cells refuses, and what a write leaves.
 use super::cells::Cells;
 use super::store::Store;
-use elements::metres::metres;
+use elements::metres::Metres;
 use refusals::refusal::Refusal;
 use shapes::declaration::Declaration;
 use std::test::Fail;
@@ -35,7 +35,7 @@ const TABLE: Declaration = Declaration {
 fn refused(rt: &HostRuntime, declared: &[Declaration]) -> Option<Refusal> {
     match Cells::open(declared, Vec::new(rt.alloc())) {
         Ok(cells) => {
-            let _ = cells.close().push(metres(0));
+            let _ = cells.close().push(Metres::of(0));
             None
         }
         Err(declined) => Some(declined.refusal),
@@ -60,16 +60,16 @@ fn declarations_are_judged(rt: HostRuntime) {
 
 #[test]
 fn a_write_sets_one_place(rt: HostRuntime) -> Result<(), Fail> {
-    let elements = vec![in rt.alloc(); metres(0); 7]?;
+    let elements = vec![in rt.alloc(); Metres::of(0); 7]?;
     let Ok(mut cells) = Cells::open(&[TABLE], elements) else {
         return Err(Fail::new("not opened"));
     };
-    assert_eq!(rt; cells.write(1, &[2, 1], metres(5)), Ok(()));
-    assert_eq!(rt; cells.read(1, &[2, 1]), Ok(metres(5)));
-    assert_eq!(rt; cells.read(1, &[1, 2]), Ok(metres(0)));
+    assert_eq!(rt; cells.write(1, &[2, 1], Metres::of(5)), Ok(()));
+    assert_eq!(rt; cells.read(1, &[2, 1]), Ok(Metres::of(5)));
+    assert_eq!(rt; cells.read(1, &[1, 2]), Ok(Metres::of(0)));
     assert_eq!(rt; cells.read(1, &[1, 4]), Err(Refusal::OutOfReach));
     assert_eq!(rt;
-        cells.write(2, &[], metres(5)),
+        cells.write(2, &[], Metres::of(5)),
         Err(Refusal::NoSuchVariable)
     );
     Ok(())

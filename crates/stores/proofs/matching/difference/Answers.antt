@@ -1,24 +1,21 @@
-use Rattle.std.proofs.Common.{◌≡◌, length, sym, ◌∙◌, arith, true, false, nat_eq}
-use Rattle.std.proofs.lemmas.Grind.{common_steps}
-use Rattle.std.specs.Cmp.Lexicographic.{pointwise}
-use Rattle.shapes.specs.Shapes.{shapes_of, extents_of}
-use Rattle.stores.proofs.Compared.{compared, first_differs}
+use Rattle.std.proofs.Common.{◌≡◌, length, ◌∙◌, arith}
+use Rattle.stores.proofs.Compared.{differs_at, differs_not, difference_is}
 use Rattle.stores.proofs.matching.difference.Goals as goal
 
-pub returns-then-ne : goal.returns-then-ne
-returns-then-ne g c =
-    let ss = shapes_of c.args.wanted.now in let ts = (g.S.Store.meaning c.args.s.now).shapes in let k = c.loop-k.k in
-    let x = extents_of c.in-Ok-Ok.one in let y = extents_of c.in-Ok-Ok.other in
-    let n : length ss ≡ length ts = cc in
-    let p : pointwise nat_eq x y ≡ false = grind (arith, common_steps) in
-    let q = compared ss ts k x y (omega arith) (omega arith) (rw c.in-Ok-Ok.is-0 at c.shape.ensures) (rw c.table-own.ensures at c.in-Ok-Ok.ensures) in
-    first_differs ss ts k n c.loop-k.invariant (rw p at q)
+pub overflow_add-result : goal.overflow_add-result
+overflow_add-result g c =
+    let ss = c.shapes.result.now in let ts = c.shapes-2.result.now in
+    let l : length ss ≡ length ts = omega (arith, c.shapes.ensures.count, c.shapes-2.ensures.count, c.len.ensures, c.len-2.ensures, c.if-len.false) in
+    omega (arith, (differs_at ss ts l c.in-Some.k c.in-Some.ensures).1, c.shapes.ensures.few)
 
-pub loop-k-preserved : goal.loop-k-preserved
-loop-k-preserved g c =
-    let ss = shapes_of c.args.wanted.now in let ts = (g.S.Store.meaning c.args.s.now).shapes in let k = c.loop-k.k in
-    let x = extents_of c.in-Ok-Ok.one in let y = extents_of c.in-Ok-Ok.other in
-    let n : length ss ≡ length ts = cc in
-    let p : pointwise nat_eq x y ≡ true = grind (arith, common_steps) in
-    let q = compared ss ts k x y (omega arith) (omega arith) (rw c.in-Ok-Ok.is-0 at c.shape.ensures) (rw c.table-own.ensures at c.in-Ok-Ok.ensures) in
-    sym (rw p at q) ∙ c.loop-k.invariant
+pub returns-in-Some : goal.returns-in-Some
+returns-in-Some g c =
+    let ss = c.shapes.result.now in let ts = c.shapes-2.result.now in
+    let l : length ss ≡ length ts = omega (arith, c.shapes.ensures.count, c.shapes-2.ensures.count, c.len.ensures, c.len-2.ensures, c.if-len.false) in
+    difference_is ss ts l _ _ _ c.shapes.ensures.shapes (c.shapes-2.ensures.shapes ∙ c.table-own.ensures) (differs_at ss ts l c.in-Some.k c.in-Some.ensures).0
+
+pub returns-in-None : goal.returns-in-None
+returns-in-None g c =
+    let ss = c.shapes.result.now in let ts = c.shapes-2.result.now in
+    let l : length ss ≡ length ts = omega (arith, c.shapes.ensures.count, c.shapes-2.ensures.count, c.len.ensures, c.len-2.ensures, c.if-len.false) in
+    difference_is ss ts l _ _ _ c.shapes.ensures.shapes (c.shapes-2.ensures.shapes ∙ c.table-own.ensures) (differs_not ss ts l c.in-None.ensures)
