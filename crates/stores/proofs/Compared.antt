@@ -1,8 +1,8 @@
 -- Lists of shapes, compared one by one. Assumes nothing.
-use Rattle.std.proofs.Common.{◌≡◌, ℕ, ◌+◌, ◌<◌, ◌≤◌, Bool, true, false, cond, ◌&&◌, eqb, nat_eq, List, [], ◌∷◌, length, get_or, drop, Ok, Err, sym, refl, ap, ◌∙◌, arith}
+use Rattle.std.proofs.Common.{◌≡◌, ℕ, ◌+◌, ◌<◌, Bool, true, false, cond, ◌&&◌, eqb, nat_eq, List, [], ◌∷◌, length, get_or, drop, Ok, Err, sym, refl, ap, ◌∙◌, arith}
 use Rattle.std.specs.Cmp.Lexicographic.{pointwise}
 use Rattle.std.proofs.lemmas.Bool.{cond-true, eqb-true, eq-eqb}
-use Rattle.std.proofs.lemmas.List.{drop_more, drop_all}
+use Rattle.std.proofs.lemmas.List.{drop_more}
 use Rattle.indices.specs.Dimensions.{same}
 use Rattle.indices.proofs.Equal.{same_equal}
 use Rattle.refusals.specs.Refusals.{done}
@@ -28,9 +28,6 @@ compared ss ts k x y l m e f =
 
 pub first_differs : (ss ts : List (List ℕ)) (k : ℕ) → length ss ≡ length ts → first_other (k + 1) (drop k ss) (drop k ts) ≡ first_other 1 ss ts → first_other (k + 1) (drop k ss) (drop k ts) ≡ Err (Shape (k + 1)) → Err (Shape (k + 1)) ≡ difference ss ts
 first_differs ss ts k n h q = sym q ∙ h ∙ sym (cond-true (eqb (length ss) (length ts)) _ _ (eq-eqb (length ss) (length ts) n))
-
-pub other_all : (ss ts : List (List ℕ)) (n k : ℕ) → length ss ≤ k → first_other n (drop k ss) (drop k ts) ≡ Ok tt
-other_all ss ts n k l = rw (drop_all k ss l)
 
 -- what compares as equal is equal
 others_equal : (n : ℕ) (ss ts : List (List ℕ)) → length ss ≡ length ts → Ok tt ≡ first_other n ss ts → ss ≡ ts

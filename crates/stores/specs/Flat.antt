@@ -1,16 +1,16 @@
 -- Elements in a list, variable after variable: a lawful meaning, read and written. Assumes nothing.
-use Rattle.std.specs.Prelude.{◌≡◌, ℕ, ◌<◌, ◌≤◌, Bool, true, false, cond, ◌||◌, List, [], ◌∷◌, length, slice_index_or, slice_set, refl}
+use Rattle.std.specs.Prelude.{◌≡◌, ℕ, ◌<◌, ◌≤◌, Bool, true, false, cond, List, [], ◌∷◌, length, slice_index_or, slice_set, refl}
 use Rattle.std.proofs.Common.{arith}
 use Rattle.std.proofs.lemmas.Bool.{and_parts, both_ways}
 use Rattle.std.proofs.lemmas.List.{get_or-set_same, get_or-set_other}
-use Rattle.elements.specs.Algebra.{Algebra, is_zero}
+use Rattle.elements.specs.Algebra.{Algebra}
 use Rattle.shapes.specs.declared.table.Table.{Table}
 use Rattle.indices.specs.Places.{within, pick, has, total, each, cell}
 use Rattle.refusals.specs.Refusals.{done, refused, and_then}
 use Rattle.shapes.specs.Shapes.{shapes_of, place_answer}
 use Rattle.shapes.proofs.Extents.{proper_parts, each_parts}
 use Rattle.shapes.proofs.Tables.{shapes_length, proper_pick, cell_lt, cell_other, placed}
-use Rattle.stores.specs.Meaning.{Lawful, Covers, Written, read_answer, write_answer, in_shape}
+use Rattle.stores.specs.Meaning.{Lawful, Covers, Written, read_answer, in_shape}
 use Rattle.stores.specs.Cells.{flat}
 
 -- every shape covers itself
@@ -42,15 +42,6 @@ module _ {E : Type 0} (a : Algebra E) (ss : List (List ℕ)) (xs : List E) (v : 
       by true true = refl
       by true false = refl
       by false w = refl
-
-  -- no place of a flat store is spare, so a write asks only for the place
-  pub flat_write : (x : E) → write_answer a (flat a.zero ss xs) v i x ≡ and_then (place_answer ss v i) (λ _. done (tt {0}))
-  flat_write x = by (has ss v) (within (pick ss v) i) (is_zero a x)
-    where
-      by : (h w n : Bool) → cond h (cond w (cond (w || n) (done (tt {0})) (refused 3 0)) (refused 2 0)) (refused 1 0) ≡ and_then (cond h (cond w (done (cell ss v i)) (refused 2 0)) (refused 1 0)) (λ _. done (tt {0}))
-      by true true n = refl
-      by true false n = refl
-      by false w n = refl
 
   pub flat_written : (x : E) → has ss v ≡ true → within (pick ss v) i ≡ true → total ss ≤ length xs → Written true (flat a.zero ss xs) v i x (flat a.zero ss (slice_set xs (cell ss v i) x))
   flat_written x h w f =
