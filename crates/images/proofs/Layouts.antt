@@ -1,10 +1,11 @@
 -- What the questions about a buffer come to: its parts lie after the pairs and apart, and every cell holds a code. Assumes nothing.
 use Rattle.std.proofs.Common.{◌≡◌, ℕ, zero, suc, ◌+◌, ◌-◌, ◌*◌, ◌<◌, ◌≤◌, Bool, true, false, cond, ◌&&◌, eqb, leb, List, [], ◌∷◌, length, get_or, drop, sym, refl, ap, ◌∙◌, subst, arith}
 use Rattle.std.proofs.lemmas.List.{at_drop_more}
-use Rattle.std.proofs.lemmas.Bool.{and_parts, leb-true, eqb-true, false≢true}
+use Rattle.std.proofs.lemmas.Bool.{and_parts, cond-true, leb-true, eqb-true, false≢true}
 use Rattle.elements.specs.Algebra.{Algebra}
 use Rattle.indices.specs.Places.{product, pick, has}
 use Rattle.refusals.specs.Refusals.{Answer, done, refused, and_then}
+use Rattle.shapes.proofs.Asked.{done_since}
 use Rattle.shapes.proofs.Tables.{counted_parts}
 use Rattle.shapes.specs.declared.declaration.Declaration.{Declaration}
 use Rattle.shapes.specs.Shapes.{declared}
@@ -147,9 +148,22 @@ opened_laid a ds bs ss e = by_shapes (declared ds) e
     by_shapes (done ts) e = by_header ts (headed a.number (length ts) bs) e
     by_shapes (refused n k) e = absurd (let z : ◌≡◌ {A = ℕ} 0 1 = cc in omega arith)
 
--- a loop's step at shape k
-pub pairs_more : (bs : List ℕ) (ss : List (List ℕ)) (k end : ℕ) → k < length ss → pairs_from bs (k + 1) end (drop k ss) ≡ cond (paired bs (k + 1) end (get_or ss k [])) (pairs_from bs (k + 1 + 1) (offset bs (k + 1) + size bs (k + 1)) (drop (k + 1) ss)) (refused 7 (k + 1))
-pairs_more bs ss k end h = at_drop_more (pairs_from bs (k + 1) end) ss k [] h
+-- a loop's step at shape k, which is s: its pair was looked at
+module _ (bs : List ℕ) (ss : List (List ℕ)) (k end : ℕ) (l : k < length ss) where
+  pairs_more : (s : List ℕ) → s ≡ get_or ss k [] → pairs_from bs (k + 1) end (drop k ss) ≡ cond (paired bs (k + 1) end s) (pairs_from bs (k + 1 + 1) (offset bs (k + 1) + size bs (k + 1)) (drop (k + 1) ss)) (refused 7 (k + 1))
+  pairs_more s e = rw e (at_drop_more (pairs_from bs (k + 1) end) ss k [] l)
+
+  pub pair_found : (s : List ℕ) (n : ℕ) → s ≡ get_or ss k [] → done n ≡ cond (paired bs (k + 1) end s) (done (offset bs (k + 1) + size bs (k + 1))) (refused 7 (k + 1)) → pairs_from bs (k + 1 + 1) n (drop (k + 1) ss) ≡ pairs_from bs (k + 1) end (drop k ss)
+  pair_found s n e f =
+      let p = done_since (paired bs (k + 1) end s) n _ _ _ f in
+      ap (λ t. pairs_from bs (k + 1 + 1) t (drop (k + 1) ss)) p.1 ∙ sym (pairs_more s e ∙ cond-true (paired bs (k + 1) end s) _ _ p.0)
+
+  pub pair_refused : (s : List ℕ) (n p : ℕ) → s ≡ get_or ss k [] → refused n p ≡ cond (paired bs (k + 1) end s) (done (offset bs (k + 1) + size bs (k + 1))) (refused 7 (k + 1)) → refused n p ≡ pairs_from bs (k + 1) end (drop k ss)
+  pair_refused s n p e f = by (paired bs (k + 1) end s) f (sym (pairs_more s e))
+    where
+      by : (b : Bool) → ◌≡◌ {A = Answer ℕ} (refused n p) (cond b (done (offset bs (k + 1) + size bs (k + 1))) (refused 7 (k + 1))) → cond b (pairs_from bs (k + 1 + 1) (offset bs (k + 1) + size bs (k + 1)) (drop (k + 1) ss)) (refused 7 (k + 1)) ≡ pairs_from bs (k + 1) end (drop k ss) → refused n p ≡ pairs_from bs (k + 1) end (drop k ss)
+      by true f g = absurd (let z : ◌≡◌ {A = ℕ} 0 1 = cc in omega arith)
+      by false f g = cc
 
 pub codes_more : {E : Type 0} (a : Algebra E) (bs : List ℕ) (ss : List (List ℕ)) (k p : ℕ) → k < length ss → codes_from a bs (k + 1) p (drop k ss) ≡ and_then (codes_of a bs (offset bs (k + 1)) p (product (get_or ss k []))) (λ _. codes_from a bs (k + 1 + 1) (p + product (get_or ss k [])) (drop (k + 1) ss))
 codes_more a bs ss k p h = at_drop_more (codes_from a bs (k + 1) p) ss k [] h

@@ -50,6 +50,13 @@ module _ {E : Type 0} (a : Algebra E) (ss : List (List ℕ)) (bs : List ℕ) (v 
       by true false n = refl
       by false w n = refl
 
+  -- a cell that was not found
+  pub image_unread : (n p : ℕ) → refused n p ≡ spot_answer ss bs v i → refused n p ≡ read_answer (imaged a ss bs) v i
+  image_unread n p e = ap (λ t. and_then t (λ k. done (unwrap_or (a.decode (number_at k 8 bs)) a.zero))) e ∙ sym image_read
+
+  pub image_unwritten : (x : E) (n p : ℕ) → refused n p ≡ spot_answer ss bs v i → refused n p ≡ write_answer a (imaged a ss bs) v i x
+  image_unwritten x n p e = ap (λ t. and_then t (λ _. done (tt {0}))) e ∙ sym (image_write x)
+
 -- what it tells that a cell was found
 pub record Found (ss : List (List ℕ)) (bs : List ℕ) (v : ℕ) (i : List ℕ) (k : ℕ) : Type 0 where
   pub known : has ss v ≡ true

@@ -1,18 +1,15 @@
 // Numbers in a byte buffer, big-endian.
-ghost use Rattle.std.specs.Prelude.{◌≡◌, ◌+◌, ◌^◌, ◌<◌, ◌≤◌, length};
-ghost use Rattle.images.specs.Bytes.{number as number_of, number_at, bytes, patched};
+ghost use Rattle.std.specs.Prelude.{◌≡◌, ◌+◌, ◌<◌, ◌≤◌, length};
+ghost use Rattle.images.specs.Bytes.{number_at, bytes, part, patched};
 
-// The number that these bytes stand for.
-fn number(bytes: &[u8]) -> u64
-    requires { length bytes.now ≤ 8 }
-    ensures value { result ≡ number_of bytes.now }
-    ensures bound { result < 256 ^ length bytes.now }
+// The N bytes that stand at `at`.
+fn part_at<const N: usize>(bytes: &[u8], at: usize) -> [u8; N]
+    requires { at + N ≤ length bytes.now }
+    ensures { result ≡ part at N bytes.now }
 {
-    let mut n: u64 = 0;
-    for b in bytes {
-        n = n * 256 + *b as u64;
-    }
-    n
+    let mut held = [0; N];
+    held.copy_from_slice(&bytes[at..at + N]);
+    held
 }
 
 // The offset or the length that stands at `at`.
@@ -21,7 +18,7 @@ pub(super) fn number32(bytes: &[u8], at: usize) -> usize
     ensures value { result ≡ number_at at 4 bytes.now }
     ensures small { result < 4294967296 }
 {
-    number(&bytes[at..at + 4]) as usize
+    u32::from_be_bytes(part_at(bytes, at)) as usize
 }
 
 // The code that stands at `at`.
@@ -29,7 +26,7 @@ pub(super) fn number64(bytes: &[u8], at: usize) -> u64
     requires { at + 8 ≤ length bytes.now }
     ensures { result ≡ number_at at 8 bytes.now }
 {
-    number(&bytes[at..at + 8])
+    u64::from_be_bytes(part_at(bytes, at))
 }
 
 // Puts a code at `at`.

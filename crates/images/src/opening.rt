@@ -1,6 +1,6 @@
 // The questions about a buffer before it is an image.
-ghost use Rattle.std.specs.Prelude.{◌≡◌, ◌+◌, ◌*◌, ◌≤◌, length, if◌then◌else◌, Some, None};
-ghost use Rattle.refusals.specs.Refusals.{answered, done};
+ghost use Rattle.std.specs.Prelude.{◌≡◌, ◌+◌, ◌*◌, ◌≤◌, length, if◌then◌else◌};
+ghost use Rattle.refusals.specs.Refusals.{answered, done, refused};
 ghost use Rattle.shapes.specs.Shapes.{extents_of, shapes_of};
 ghost use Rattle.images.specs.Layout.{offset as offset_of, size as size_of, headed, paired, pairs, codes_of, codes};
 
@@ -27,29 +27,26 @@ pub(super) fn check_pairs(bytes: &[u8], table: &Table) -> Result<(), Refusal>
     let mut end = 8 * table.len() + 4;
     for k in 0..table.len() {
         let shape = table.shape(k + 1)?;
-        match part_end(bytes, k + 1, end, &shape) {
-            Some(next) => end = next,
-            None => return Err(Refusal::BadPair(k + 1)),
-        }
+        end = part_end(bytes, k + 1, end, &shape)?;
     }
     Ok(())
 }
 
 // Where part v ends, if its pair lies in the buffer, and the part at or after `end` and in the buffer too.
-fn part_end(bytes: &[u8], v: usize, end: usize, shape: &Shape) -> Option<usize>
+fn part_end(bytes: &[u8], v: usize, end: usize, shape: &Shape) -> Result<usize, Refusal>
     requires low { 1 ≤ v }
     requires high { v ≤ 16 }
-    ensures { result ≡ (if paired bytes.now v end (extents_of shape.now) then Some (offset_of bytes.now v + size_of bytes.now v) else None) }
+    ensures { answered result ≡ (if paired bytes.now v end (extents_of shape.now) then done (offset_of bytes.now v + size_of bytes.now v) else refused 7 v) }
 {
     if 8 * v + 4 > bytes.len() {
-        return None;
+        return Err(Refusal::BadPair(v));
     }
     let offset = number32(bytes, 8 * v - 4);
     let size = number32(bytes, 8 * v);
     if end > offset || size != 8 * shape.size() || offset + size > bytes.len() {
-        return None;
+        return Err(Refusal::BadPair(v));
     }
-    Some(offset + size)
+    Ok(offset + size)
 }
 
 // Whether every cell holds a code of the kind.
@@ -61,9 +58,7 @@ pub(super) fn check_codes<K: Kind>(bytes: &[u8], table: &Table) -> Result<(), Re
     for k in 0..table.len() {
         let cells = table.shape(k + 1)?.size();
         let at = number32(bytes, 8 * k + 4);
-        if let Err(refusal) = check_part::<K>(bytes, at, first, cells) {
-            return Err(refusal);
-        }
+        check_part::<K>(bytes, at, first, cells)?;
         first += cells;
     }
     Ok(())

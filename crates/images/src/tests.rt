@@ -1,6 +1,6 @@
 // The image of A (2 3), B (3 2) and C (2 2), as it lies, and what opening refuses.
 use super::image::Image;
-use elements::metres::{Metres, metres};
+use elements::metres::Metres;
 use refusals::refusal::Refusal;
 use shapes::declaration::Declaration;
 use std::alloc::{AllocError, Global};
@@ -69,9 +69,9 @@ fn a_write_sets_eight_bytes(rt: HostRuntime) -> Result<(), Fail> {
     let Ok(mut image) = Image::<Metres>::open(&TABLES, buffer(rt.alloc(), 128)?) else {
         return Err(Fail::new("not opened"));
     };
-    assert_eq!(rt; image.write(1, &[1, 2], metres(5)), Ok(()));
-    assert_eq!(rt; image.read(1, &[1, 2]), Ok(metres(5)));
-    assert_eq!(rt; image.read(1, &[2, 1]), Ok(metres(i64::MAX)));
+    assert_eq!(rt; image.write(1, &[1, 2], Metres::of(5)), Ok(()));
+    assert_eq!(rt; image.read(1, &[1, 2]), Ok(Metres::of(5)));
+    assert_eq!(rt; image.read(1, &[2, 1]), Ok(Metres::of(i64::MAX)));
     let bytes = image.close();
     assert!(rt; bytes.len() == 156);
     assert!(rt; bytes[44] == 0 && bytes[48] == 0x80 && bytes[51] == 5 && bytes[52] == 0);

@@ -1,11 +1,10 @@
-use Rattle.std.proofs.Common.{◌≡◌, ℕ, ◌+◌, ◌-◌, ◌*◌, ◌<◌, List, [], length, get_or, drop, sym, ap, ◌∙◌, arith}
-use Rattle.std.proofs.lemmas.List.{at_drop_all}
+use Rattle.std.proofs.Common.{◌≡◌, ℕ, ◌+◌, ◌-◌, ◌*◌, ◌<◌, List, [], length, get_or, drop, sym, ap, ◌∙◌, arith, rules}
 use Rattle.indices.specs.Places.{product}
 use Rattle.refusals.specs.Refusals.{and_then}
 use Rattle.shapes.specs.Shapes.{shapes_of, extents_of}
-use Rattle.shapes.proofs.Asked.{never_refused, done_same}
+use Rattle.shapes.proofs.Asked.{done_same}
 use Rattle.shapes.proofs.Extents.{proper_parts}
-use Rattle.shapes.proofs.Tables.{shapes_length, shape_next}
+use Rattle.shapes.proofs.Tables.{shape_next}
 use Rattle.images.specs.Bytes.{number_at}
 use Rattle.images.specs.Layout.{offset, codes_from, codes_of}
 use Rattle.images.proofs.Layouts.{inside_done, codes_more}
@@ -18,65 +17,36 @@ stands bs k = let e : 8 * k + 4 ≡ 8 * (k + 1) - 4 = omega arith in ap (λ n. n
 one : (bs : List ℕ) (k : ℕ) → offset bs (1 + k) ≡ offset bs (k + 1)
 one bs k = let e : 1 + k ≡ k + 1 = omega arith in ap (offset bs) e
 
-pub overflow_mul-k : goal.overflow_mul-k
-overflow_mul-k g c = omega (arith, c.len-k-end.ensures, shapes_length c.args.table.now, c.args.table.now.few, c.loop-k-test.true)
-
-pub overflow_add-k-in-loop-k : goal.overflow_add-k-in-loop-k
-overflow_add-k-in-loop-k g c = omega (arith, c.len-k-end.ensures, shapes_length c.args.table.now, c.args.table.now.few, c.loop-k-test.true)
-
-pub number32-at-requires : goal.number32-at-requires
-number32-at-requires g c =
-    let ss = shapes_of c.args.table.now in let bs = c.args.bytes.now in
-    omega (arith, (inside_done bs 1 (8 * length ss + 4) ss c.requires c.loop-k.k (omega (arith, c.len-k-end.ensures, c.loop-k-test.true))).0)
-
-pub check_part-requires : goal.check_part-requires
-check_part-requires g c =
+pub check_part-requires-clause-inside : goal.check_part-requires-clause-inside
+check_part-requires-clause-inside g c =
     let ss = shapes_of c.args.table.now in let bs = c.args.bytes.now in let k = c.loop-k.k in
-    let s = c.in_ok-shape.field-0 in
-    let l : k < length ss = omega (arith, c.len-k-end.ensures, c.loop-k-test.true) in
+    let l : k < length ss = omega arith in
     let e = ap product (done_same _ _ _ c.in_ok-shape.ensures (shape_next ss k l)) in
     let i = (inside_done bs 1 (8 * length ss + 4) ss c.requires k l).1 in
-    record {
-      inside = omega (arith, i, e, c.size-cells.ensures, c.number32-at.ensures.value, stands bs k, one bs k);
-      few = omega (arith, c.loop-k.invariant.1, c.size-cells.ensures, (proper_parts (extents_of s) s.sound).places, l, shapes_length c.args.table.now, c.args.table.now.few);
-    }
+    omega (arith, i, e, c.size-cells.ensures, c.number32-at.ensures.value, stands bs k, one bs k)
 
-pub returns-in_err-shape : goal.returns-in_err-shape
-returns-in_err-shape g c =
-    let ss = shapes_of c.args.table.now in
-    never_refused _ _ _ _ c.in_err-shape.ensures (shape_next ss c.loop-k.k (omega (arith, c.len-k-end.ensures, c.loop-k-test.true)))
-
-pub returns-in-Err : goal.returns-in-Err
-returns-in-Err g c =
+-- what the cells of a variable's shape come to
+pub returns-in_err-check_part : goal.returns-in_err-check_part
+returns-in_err-check_part g c =
     let ss = shapes_of c.args.table.now in let bs = c.args.bytes.now in let k = c.loop-k.k in let a = g.K.Kind.algebra in
-    let l : k < length ss = omega (arith, c.len-k-end.ensures, c.loop-k-test.true) in
+    let l : k < length ss = omega arith in
     let e = ap product (done_same _ _ _ c.in_ok-shape.ensures (shape_next ss k l)) in
-    let f = c.in-Err.ensures ∙ ap (λ n. codes_of a bs n c.loop-k.first c.size-cells.result) (c.number32-at.ensures.value ∙ stands bs k)
+    let f = c.in_err-check_part.ensures ∙ ap (λ n. codes_of a bs n c.loop-k.first c.size-cells.result) (c.number32-at.ensures.value ∙ stands bs k)
     ∙ ap (codes_of a bs (offset bs (k + 1)) c.loop-k.first) (c.size-cells.ensures ∙ e) in
-    ap (λ t. and_then t (λ _. codes_from a bs (k + 1 + 1) (c.loop-k.first + product (get_or ss k [])) (drop (k + 1) ss))) f
-    ∙ sym (codes_more a bs ss k c.loop-k.first l) ∙ c.loop-k.invariant.0
-
-pub overflow_add-first : goal.overflow_add-first
-overflow_add-first g c =
-    let s = c.in_ok-shape.field-0 in
-    omega (arith, c.loop-k.invariant.1, c.size-cells.ensures, (proper_parts (extents_of s) s.sound).places, c.len-k-end.ensures, c.loop-k-test.true, shapes_length c.args.table.now, c.args.table.now.few)
+    let h = ap (λ t. and_then t (λ _. codes_from a bs (k + 1 + 1) (c.loop-k.first + product (get_or ss k [])) (drop (k + 1) ss))) f
+    ∙ sym (codes_more a bs ss k c.loop-k.first l) ∙ c.loop-k.invariant.0 in search rules
 
 pub loop-k-preserved : goal.loop-k-preserved
 loop-k-preserved g c =
     let ss = shapes_of c.args.table.now in let bs = c.args.bytes.now in let k = c.loop-k.k in let a = g.K.Kind.algebra in
     let s = c.in_ok-shape.field-0 in
-    let l : k < length ss = omega (arith, c.len-k-end.ensures, c.loop-k-test.true) in
+    let l : k < length ss = omega arith in
     let e = ap product (done_same _ _ _ c.in_ok-shape.ensures (shape_next ss k l)) in
     let z = c.size-cells.ensures ∙ e in
-    let f = c.in_default.ensures ∙ ap (λ n. codes_of a bs n c.loop-k.first c.size-cells.result) (c.number32-at.ensures.value ∙ stands bs k)
+    let f = c.in_ok-check_part.ensures ∙ ap (λ n. codes_of a bs n c.loop-k.first c.size-cells.result) (c.number32-at.ensures.value ∙ stands bs k)
     ∙ ap (codes_of a bs (offset bs (k + 1)) c.loop-k.first) z in (
       ap (λ n. codes_from a bs (k + 1 + 1) (c.loop-k.first + n) (drop (k + 1) ss)) z
           ∙ ap (λ t. and_then t (λ _. codes_from a bs (k + 1 + 1) (c.loop-k.first + product (get_or ss k [])) (drop (k + 1) ss))) f
           ∙ sym (codes_more a bs ss k c.loop-k.first l) ∙ c.loop-k.invariant.0,
       omega (arith, c.loop-k.invariant.1, c.size-cells.ensures, (proper_parts (extents_of s) s.sound).places),
     )
-
-pub returns : goal.returns
-returns g c =
-    let ss = shapes_of c.args.table.now in let bs = c.args.bytes.now in let k = c.loop-k.k in
-    sym (at_drop_all (codes_from g.K.Kind.algebra bs (k + 1) c.loop-k.first) ss k (omega (arith, c.len-k-end.ensures, c.loop-k-test.false))) ∙ c.loop-k.invariant.0
