@@ -25,9 +25,8 @@ pub(super) fn check_pairs(bytes: &[u8], table: &Table) -> Result<(), Refusal>
     ensures { answered result ≡ pairs bytes.now (shapes_of table.now) }
 {
     let mut end = 8 * table.len() + 4;
-    for k in 0..table.len() {
-        let shape = table.shape(k + 1)?;
-        end = part_end(bytes, k + 1, end, &shape)?;
+    for (k, shape) in table.shapes().iter().enumerate() {
+        end = part_end(bytes, k + 1, end, shape)?;
     }
     Ok(())
 }
@@ -55,8 +54,8 @@ pub(super) fn check_codes<K: Kind>(bytes: &[u8], table: &Table) -> Result<(), Re
     ensures { answered result ≡ codes K.Kind.algebra bytes.now (shapes_of table.now) }
 {
     let mut first = 1;
-    for k in 0..table.len() {
-        let cells = table.shape(k + 1)?.size();
+    for (k, shape) in table.shapes().iter().enumerate() {
+        let cells = shape.size();
         let at = number32(bytes, 8 * k + 4);
         check_part::<K>(bytes, at, first, cells)?;
         first += cells;

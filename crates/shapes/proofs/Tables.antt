@@ -21,6 +21,10 @@ shapes_at t k s h e =
     let n = length-take-le t.len t.shapes l in
     get_or-map extents_of (take t.len t.shapes) k s [] (omega arith) ∙ ap extents_of (get_or-take t.len t.shapes k s h ∙ sym e)
 
+-- the shape of number k among those that a table lists
+pub listed : (ss : List (List ℕ)) (xs : List Shape) (k : ℕ) (s : Shape) → map extents_of xs ≡ ss → k < length xs → s ≡ get_or xs k s → extents_of s ≡ get_or ss k []
+listed ss xs k s e l p = ap extents_of p ∙ sym (get_or-map extents_of xs k s [] l) ∙ ap (λ t. get_or t k []) e
+
 pub shapes_added : (ss : List Shape) (n : ℕ) (s : Shape) → n < length ss → map extents_of (take (n + 1) (set ss n s)) ≡ map extents_of (take n ss) ++ extents_of s ∷ []
 shapes_added ss n s h = ap (map extents_of) (take_more_set ss n s h) ∙ map_push extents_of (take n ss) s
 
