@@ -1,16 +1,13 @@
 -- Places made zero, one after another, and what that leaves of a store. Assumes nothing.
-use Rattle.std.proofs.Common.{◌≡◌, ℕ, ◌+◌, ◌<◌, ◌≤◌, Bool, true, false, ◌&&◌, ◌||◌, List, length, is_ok, Ok, Err, Result, sym, refl, ap, ◌∙◌, subst, ⊎_elim, arith}
-use Rattle.std.proofs.lemmas.Bool.{and_parts, and_from, cond-true, both_ways, cases_eq, cases_Bool, or_right, eq-eqb}
+use Rattle.std.proofs.Common.{◌≡◌, ℕ, ◌+◌, ◌<◌, ◌≤◌, Bool, true, false, ◌&&◌, ◌||◌, List, is_ok, Ok, Err, Result, sym, refl, ap, ◌∙◌, subst, ⊎_elim, arith}
+use Rattle.std.proofs.lemmas.Bool.{and_parts, and_from, cond-true, both_ways, cases_eq, or_right, eq-eqb}
 use Rattle.elements.specs.Algebra.{Algebra, is_zero}
 use Rattle.indices.specs.Places.{within, place, unplace, product, pick, has}
 use Rattle.refusals.specs.declared.refusal.Refusal.{Refusal}
 use Rattle.refusals.specs.Refusals.{done, answered}
 use Rattle.shapes.proofs.Numbering.{Solid, within_unplace, place_unplace, unplace_place, place_lt}
-use Rattle.shapes.proofs.Tables.{counted_parts}
 use Rattle.stores.specs.Meaning.{Meaning, Lawful, Covers, Written, write_answer, in_reach, in_shape}
-use Rattle.padding.specs.Padding.{Padded, Cleared}
 use Rattle.padding.specs.Clearing.{ClearedOne}
-use Rattle.padding.specs.Rounding.{all_rounded}
 use Rattle.padding.specs.Padded.{within_covered}
 
 -- what is done is not refused
@@ -96,14 +93,6 @@ pub record ClearedTo {E : Type 0} (z : E) (ss : List (List ℕ)) (n : ℕ) (b c 
   pub kept : (v : ℕ) (i : List ℕ) → in_reach b v i ≡ true → (v ≤ n → in_shape b v i ≡ true → within (pick ss v) i ≡ false → ⊥) → c.at v i ≡ b.at v i
 
 module _ {E : Type 0} (z : E) (ss : List (List ℕ)) (b : Meaning E) where
-  pub cleared_none : ClearedTo z ss 0 b b
-  cleared_none = record {
-    shapes = refl;
-    reach = refl;
-    zeroed = λ v i l p q. absurd (let h = counted_parts (length b.shapes) v (and_parts (has b.shapes v) (within (pick b.shapes v) i) p).0 in omega (arith, h.0));
-    kept = λ v i p n. refl;
-  }
-
   pub cleared_step : (k : ℕ) (c d : Meaning E) (own wide : List ℕ) → Lawful z b → pick ss (k + 1) ≡ own → pick b.shapes (k + 1) ≡ wide → has b.shapes (k + 1) ≡ true → ClearedTo z ss k b c → ClearedOne z own wide (k + 1) c d → ClearedTo z ss (k + 1) b d
   cleared_step k c d own wide law eo ew kn inv one = record {
     shapes = one.shapes ∙ inv.shapes;
@@ -125,26 +114,4 @@ module _ {E : Type 0} (z : E) (ss : List (List ℕ)) (b : Meaning E) where
         (and_from (has b.shapes v) (within (pick b.shapes v) i) (ap (has b.shapes) e ∙ kn) (ap (λ t. within (pick b.shapes t) i) e ∙ ap (λ t. within t i) ew ∙ y))
         (ap (λ t. within (pick ss t) i) e ∙ ap (λ t. within t i) eo ∙ x))
         ∙ inv.kept v i p (λ l s q. n (omega arith) s q);
-  }
-
-  pub cleared_all : (k : ℕ) (c : Meaning E) → length b.shapes ≤ k → ClearedTo z ss k b c → Cleared z ss b c
-  cleared_all k c l inv = record {
-    shapes = inv.shapes;
-    reach = inv.reach;
-    zeroed = λ v i p q.
-        let h = counted_parts (length b.shapes) v (and_parts (has b.shapes v) (within (pick b.shapes v) i) p).0 in
-        inv.zeroed v i (omega arith) p q;
-    kept = λ v i p n. inv.kept v i p (λ _. n);
-  }
-
-  -- the store below is then as padding needs it
-  pub cleared_pads : (m : ℕ) (c : Meaning E) → 1 ≤ m → b.shapes ≡ all_rounded m ss → Lawful z c → Cleared z ss b c → Padded z m ss c
-  cleared_pads m c p e law inv = record {
-    positive = p;
-    shapes = inv.shapes ∙ e;
-    clear = λ v i r q.
-        ⊎_elim
-        (λ (s : in_shape c v i ≡ true). inv.zeroed v i (ap (λ t. has t v && within (pick t v) i) (sym inv.shapes) ∙ s) q)
-        (λ (s : in_shape c v i ≡ false). law.spare v i r s)
-        (cases_Bool (in_shape c v i));
   }

@@ -1,16 +1,20 @@
 -- Extents rounded up to a multiple of a vector length.
 --   round           an extent e rounded up to a multiple of m
+--   vector_length   refusal 9 unless a vector length is from 1 to 16
 --   LeastMultiple   what that means: r is the least multiple of m at or above e
 --   rounded         a shape with every extent rounded
 --   all_rounded     a list of shapes with every extent rounded
 --   rounding        refusal 10 at the first shape that is none once it is rounded; else the rounded shapes
 --   Figures         worked figures
-use Rattle.std.specs.Prelude.{◌≡◌, ℕ, ◌+◌, ◌-◌, ◌*◌, ◌/◌, ◌%◌, ◌<◌, ◌≤◌, cond, List, [], ◌∷◌, map}
+use Rattle.std.specs.Prelude.{◌≡◌, ℕ, ◌+◌, ◌-◌, ◌*◌, ◌/◌, ◌%◌, ◌<◌, ◌≤◌, cond, ◌&&◌, List, [], ◌∷◌, map, nat_le}
 use Rattle.indices.specs.Places.{proper}
 use Rattle.refusals.specs.Refusals.{Answer, done, refused}
 
 abbrev pub round : ℕ → ℕ → ℕ
 round m e = (e + (m - 1)) / m * m
+
+abbrev pub vector_length : ℕ → Answer ℕ
+vector_length m = cond (nat_le 1 m && nat_le m 16) (done m) (refused 9 0)
 
 pub record LeastMultiple (m e r : ℕ) : Type 0 where
   pub multiple : r % m ≡ 0

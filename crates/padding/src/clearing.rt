@@ -12,11 +12,9 @@ use stores::store::Store;
 
 // Clears the places of variable v that lie in `wide`, its shape below, and not in `own`.
 fn clear<K: Kind, S: Store<Item = K>>(below: &mut S, v: usize, own: &Shape, wide: &Shape)
-    requires kept { S.Store.keeps below.old }
     requires known { has (S.Store.meaning below.old).shapes v ≡ true }
     requires shape { pick (S.Store.meaning below.old).shapes v ≡ extents_of wide.now }
-    ensures kept { S.Store.keeps below.new }
-    ensures cleared { ClearedOne K.Kind.algebra.zero (extents_of own.now) (extents_of wide.now) v (S.Store.meaning below.old) (S.Store.meaning below.new) }
+    ensures { ClearedOne K.Kind.algebra.zero (extents_of own.now) (extents_of wide.now) v (S.Store.meaning below.old) (S.Store.meaning below.new) }
 {
     for k in 0..wide.size() {
         let Some(index) = wide.index(k) else {
@@ -29,19 +27,13 @@ fn clear<K: Kind, S: Store<Item = K>>(below: &mut S, v: usize, own: &Shape, wide
     }
 }
 
-// Clears the places of every variable that lie in its shape of `wide` and not in that of `own`.
-pub(super) fn clear_all<K: Kind, S: Store<Item = K>>(below: &mut S, own: &Table, wide: &Table)
-    requires kept { S.Store.keeps below.old }
-    requires shapes { (S.Store.meaning below.old).shapes ≡ shapes_of wide.now }
-    requires count { length (shapes_of own.now) ≡ length (shapes_of wide.now) }
-    ensures kept { S.Store.keeps below.new }
-    ensures cleared { Cleared K.Kind.algebra.zero (shapes_of own.now) (S.Store.meaning below.old) (S.Store.meaning below.new) }
+// Clears the places of every variable that lie in its shape below and not in that of `own`.
+pub(super) fn clear_all<K: Kind, S: Store<Item = K>>(below: &mut S, own: &Table)
+    requires { length (shapes_of own.now) ≡ length (S.Store.meaning below.old).shapes }
+    ensures { Cleared K.Kind.algebra.zero (shapes_of own.now) (S.Store.meaning below.old) (S.Store.meaning below.new) }
 {
-    for k in 0..wide.len() {
-        let Ok(inner) = own.shape(k + 1) else {
-            return;
-        };
-        let Ok(outer) = wide.shape(k + 1) else {
+    for k in 0..own.len() {
+        let (Ok(inner), Ok(outer)) = (own.shape(k + 1), below.table().shape(k + 1)) else {
             return;
         };
         clear(below, k + 1, &inner, &outer);

@@ -1,51 +1,48 @@
 // The padding layer, a store over any store.
-ghost use Rattle.std.specs.Prelude.{◌≡◌, ◌≤◌, IfOk, MatchResult};
+ghost use Rattle.std.specs.Prelude.{◌≡◌, IfOk, MatchResult};
 ghost use Rattle.refusals.specs.Refusals.{answer, opened};
 ghost use Rattle.shapes.specs.Shapes.{shapes_of};
-ghost use Rattle.padding.specs.Padding.{padded, Padded, Cleared, padding_answer};
-ghost use Rattle.padding.specs.Rounding.{all_rounded, Figures};
-ghost use Rattle.padding.specs.Padded.{padded_lawful};
+ghost use Rattle.padding.specs.Padding.{padded, Blank, Cleared, padding_answer};
+ghost use Rattle.padding.specs.Rounding.{all_rounded};
+ghost use Rattle.padding.specs.Padded.{padded_from, padded_lawful};
 
-use super::{clearing, rounding};
+use super::clearing;
+use super::vector_length::VectorLength;
+pub use super::vector_length::vector_lengths;
 use elements::kind::{Kind, is_zero};
 use refusals::refusal::{Declined, Refusal};
 use shapes::declaration::Declaration;
 use shapes::table::Table;
 use stores::matching::difference;
+use stores::mismatch::Mismatch;
 use stores::store::Store;
 
-// The true shapes over a store that has the rounded ones.
+// The true shapes over a store that has the rounded ones; every place in reach below and outside its true shape holds zero.
 #[derive(Drop)]
-pub struct Padding<S> {
+pub struct Padding<S: Store> {
     table: Table,
-    m: u16,
+    m: VectorLength,
     below: S,
+    ghost wide: { (S.Store.meaning below).shapes ≡ all_rounded m.count (shapes_of table) },
+    ghost blank: { Blank S.Item.Kind.algebra (shapes_of table) (S.Store.meaning below) },
 }
 
-// The least and the greatest vector length.
-pub fn vector_lengths() -> (u16, u16)
-    ensures bounds { (result.0 ≡ 1) × (result.1 ≡ 16) }
-    ensures figures { Figures }
-{
-    (1, 16)
-}
-
-// The declared shapes and the rounded ones, which the store below has.
-fn judge<S: Store>(declared: &[Declaration], m: u16, below: &S) -> Result<(Table, Table), Refusal>
-    requires { S.Store.keeps below.now }
+// The declared shapes and the vector length; the store below has the rounded shapes.
+fn judge<S: Store>(
+    declared: &[Declaration],
+    m: u16,
+    below: &S,
+) -> Result<(Table, VectorLength), Refusal>
     ensures answer { answer (λ p. shapes_of p.0) result ≡ padding_answer declared.now m (S.Store.meaning below.now).shapes }
-    ensures wide { IfOk result (λ p. (1 ≤ m) × (shapes_of p.1 ≡ all_rounded m (shapes_of p.0)) × ((S.Store.meaning below.now).shapes ≡ shapes_of p.1)) }
+    ensures wide { IfOk result (λ p. (p.1.count ≡ m) × ((S.Store.meaning below.now).shapes ≡ all_rounded m (shapes_of p.0))) }
 {
     let table = Table::of(declared)?;
-    let (least, greatest) = vector_lengths();
-    if m < least || m > greatest {
-        return Err(Refusal::BadVectorLength);
-    }
-    let wide = rounding::round_table(&table, m)?;
+    let length = VectorLength::try_from(m)?;
+    let wide = length.round_table(&table)?;
     match difference(&wide, below) {
-        None => Ok((table, wide)),
-        Some(0) => Err(Refusal::OtherCountBelow),
-        Some(k) => Err(Refusal::OtherShapeBelow(k)),
+        Ok(()) => Ok((table, length)),
+        Err(Mismatch::Count) => Err(Refusal::OtherCountBelow),
+        Err(Mismatch::Shape(k)) => Err(Refusal::OtherShapeBelow(k)),
     }
 }
 
@@ -55,14 +52,13 @@ pub fn open<K: Kind, S: Store<Item = K>>(
     m: u16,
     mut below: S,
 ) -> Result<Padding<S>, Declined<S>>
-    requires { S.Store.keeps below }
     ensures answer { opened (λ p. shapes_of p.table) result ≡ padding_answer declared.now m (S.Store.meaning below).shapes }
-    ensures made { MatchResult result (λ p. (S.Store.keeps p.below) × Padded K.Kind.algebra.zero p.m (shapes_of p.table) (S.Store.meaning p.below) × (p.m ≡ m) × Cleared K.Kind.algebra.zero (shapes_of p.table) (S.Store.meaning below) (S.Store.meaning p.below)) (λ d. d.value ≡ below) }
+    ensures made { MatchResult result (λ p. (p.m.count ≡ m) × Cleared K.Kind.algebra.zero (shapes_of p.table) (S.Store.meaning below) (S.Store.meaning p.below)) (λ d. d.value ≡ below) }
 {
+    // the store moves into one of two branches, so no closure can take it
     match judge(declared, m, &below) {
-        Ok(judged) => {
-            let (table, wide) = judged;
-            clearing::clear_all(&mut below, &table, &wide);
+        Ok((table, m)) => {
+            clearing::clear_all(&mut below, &table);
             Ok(Padding { table, m, below })
         }
         Err(refusal) => Err(Declined {
@@ -91,20 +87,10 @@ impl<S: Store> Store for Padding<S> {
 
     ghost meaning = { λ p. padded (shapes_of p.table) (S.Store.meaning p.below) };
 
-    ghost keeps = { λ p. (S.Store.keeps p.below) × Padded S.Item.Kind.algebra.zero p.m (shapes_of p.table) (S.Store.meaning p.below) };
+    ghost lawful = { λ s. padded_lawful S.Item.Kind.algebra.zero s.m.count s.table (S.Store.meaning s.below) (S.Store.lawful s.below) (padded_from S.Item.Kind.algebra s.m.count (shapes_of s.table) (S.Store.meaning s.below) S.Item.Kind.lawful s.m.low s.wide s.blank) };
 
-    ghost lawful = { λ s k. padded_lawful S.Item.Kind.algebra.zero s.m s.table (S.Store.meaning s.below) (S.Store.lawful s.below k.0) k.1 };
-
-    fn variables(&self) -> usize {
-        self.table.len()
-    }
-
-    fn rank(&self, v: usize) -> Result<usize, Refusal> {
-        self.table.rank(v)
-    }
-
-    fn extent(&self, v: usize, d: usize) -> Result<u16, Refusal> {
-        self.table.extent(v, d)
+    fn table(&self) -> &Table {
+        &self.table
     }
 
     fn rounded(&self, v: usize, d: usize) -> Result<u16, Refusal> {
@@ -117,10 +103,8 @@ impl<S: Store> Store for Padding<S> {
 
     fn write(&mut self, v: usize, index: &[u16], x: S::Item) -> Result<(), Refusal> {
         if !is_zero(x) && !self.table.contains(v, index) {
-            return match self.below.read(v, index) {
-                Ok(_) => Err(Refusal::SpareTakesZero),
-                Err(refusal) => Err(refusal),
-            };
+            self.below.read(v, index)?;
+            return Err(Refusal::SpareTakesZero);
         }
         self.below.write(v, index, x)
     }

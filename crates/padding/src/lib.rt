@@ -8,3 +8,4 @@ pub mod layer;
 mod rounding;
 #[cfg(test)]
 mod tests;
+pub mod vector_length;

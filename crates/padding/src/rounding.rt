@@ -6,55 +6,49 @@ ghost use Rattle.refusals.specs.Refusals.{answer};
 ghost use Rattle.shapes.specs.Shapes.{extents_of, shapes_of};
 ghost use Rattle.padding.specs.Rounding.{round, LeastMultiple, rounded, rounding};
 
+use super::vector_length::VectorLength;
 use refusals::refusal::Refusal;
 use shapes::declaration::Declaration;
 use shapes::shape::Shape;
 use shapes::table::Table;
 
-// An extent rounded up to the least multiple of m.
-fn round_up(extent: u16, m: u16) -> u16
-    requires low { 1 ≤ m }
-    requires high { m ≤ 16 }
-    requires small { extent ≤ 64 }
-    ensures value { result ≡ round m extent }
-    ensures least { LeastMultiple m extent result }
-{
-    (extent + (m - 1)) / m * m
-}
-
-// The shape with every extent rounded up, if that is a shape.
-fn round_shape(shape: &Shape, m: u16) -> Option<Shape>
-    requires low { 1 ≤ m }
-    requires high { m ≤ 16 }
-    ensures { option_map extents_of result ≡ (if proper (rounded m (extents_of shape.now)) then Some (rounded m (extents_of shape.now)) else None) }
-{
-    let es = shape.extents();
-    let rank = es.len();
-    let mut extents = [0u16; 4];
-    for d in 0..rank {
-        extents[d] = round_up(es[d], m);
+impl VectorLength {
+    // An extent rounded up to the least multiple.
+    fn round(self, extent: u16) -> u16
+        requires { extent ≤ 64 }
+        ensures value { result ≡ round self.count extent }
+        ensures least { LeastMultiple self.count extent result }
+    {
+        extent.next_multiple_of(self.count)
     }
-    Shape::of(&Declaration {
-        rank: rank as u16,
-        extents,
-    })
-}
 
-// The table with every shape rounded up.
-pub(super) fn round_table(table: &Table, m: u16) -> Result<Table, Refusal>
-    requires low { 1 ≤ m }
-    requires high { m ≤ 16 }
-    ensures { answer shapes_of result ≡ rounding m (shapes_of table.now) }
-{
-    let mut wide = Table::empty();
-    for k in 0..table.len() {
-        let shape = table.shape(k + 1)?;
-        match round_shape(&shape, m) {
-            Some(shape) => {
-                let _ = wide.add(shape);
-            }
-            None => return Err(Refusal::TooWide(k + 1)),
+    // The shape with every extent rounded up, if that is a shape.
+    fn round_shape(self, shape: &Shape) -> Option<Shape>
+        ensures { option_map extents_of result ≡ (if proper (rounded self.count (extents_of shape.now)) then Some (rounded self.count (extents_of shape.now)) else None) }
+    {
+        let es = shape.extents();
+        let mut extents = [0u16; 4];
+        for (d, e) in es.iter().enumerate() {
+            extents[d] = self.round(*e);
         }
+        Shape::of(&Declaration {
+            rank: es.len() as u16,
+            extents,
+        })
     }
-    Ok(wide)
+
+    // The table with every shape rounded up.
+    pub(super) fn round_table(self, table: &Table) -> Result<Table, Refusal>
+        ensures { answer shapes_of result ≡ rounding self.count (shapes_of table.now) }
+    {
+        let mut wide = Table::empty();
+        for k in 0..table.len() {
+            let shape = table.shape(k + 1)?;
+            let Some(shape) = self.round_shape(&shape) else {
+                return Err(Refusal::TooWide(k + 1));
+            };
+            let _ = wide.add(shape);
+        }
+        Ok(wide)
+    }
 }

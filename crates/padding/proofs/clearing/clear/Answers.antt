@@ -9,8 +9,7 @@ use Rattle.padding.proofs.clearing.clear.Goals as goal
 use Rattle.padding.proofs.clearing.clear.Goals.{then-not-contains, else-not-contains}
 
 pub loop-k-init : goal.loop-k-init
-loop-k-init g c =
-    (c.requires.kept, clear_none g.K.Kind.algebra (extents_of c.args.own.now) (extents_of c.args.wide.now) c.args.v (g.S.Store.meaning c.args.below.now))
+loop-k-init g c = clear_none g.K.Kind.algebra (extents_of c.args.own.now) (extents_of c.args.wide.now) c.args.v (g.S.Store.meaning c.args.below.now)
 
 pub loop-k-preserved : goal.loop-k-preserved
 loop-k-preserved g c =
@@ -20,22 +19,16 @@ loop-k-preserved g c =
     let s : List ℕ = c.as_slice-place.result.now in
     let lt : k < product wide = omega (arith, c.size-k-end.ensures, c.loop-k-test.true) in
     let e : s ≡ unplace wide k = c.as_slice-place.ensures ∙ (some_since (ltb k (product wide)) _ _ c.in-Some.ensures).1 in
-    let law = g.met.S.Store.lawful c.loop-k.below c.loop-k.invariant.0 in
+    let law = g.met.S.Store.lawful c.loop-k.below in
     let sol = each_solid wide (proper_parts wide outer.sound).extents in
-    let P : g.row.S.Denot → Type 0 = λ t. (g.S.Store.keeps t) × Clearing a.zero own wide v (k + 1) b (g.S.Store.meaning t) in
+    let P : g.row.S.Denot → Type 0 = λ t. Clearing a.zero own wide v (k + 1) b (g.S.Store.meaning t) in
     elim c.if-not-contains.branch [
       | then-not-contains w ↦
-          let t = clear_takes a own wide v b k d c.loop-k.invariant.1 law sol lt c.requires.known c.requires.shape s w.zero.result e w.zero.ensures in
-          subst P (sym w.below-is) (
-            w.write.ensures.kept,
-            clear_step a own wide v b k d c.loop-k.invariant.1 law sol lt c.requires.known c.requires.shape (g.S.Store.meaning w.write.new.self) s w.zero.result (is_ok w.write.result) e
-                (sym w.if-not-contains.ensures) w.zero.ensures (ok_since w.write.result (w.write.ensures.answer ∙ t)) w.write.ensures.written,
-          )
+          let t = clear_takes a own wide v b k d c.loop-k.invariant law sol lt c.requires.known c.requires.shape s w.zero.result e w.zero.ensures in
+          subst P (sym w.below-is) (clear_step a own wide v b k d c.loop-k.invariant law sol lt c.requires.known c.requires.shape (g.S.Store.meaning w.write.new.self) s w.zero.result (is_ok w.write.result) e
+          (sym w.if-not-contains.ensures) w.zero.ensures (ok_since w.write.result (w.write.ensures.answer ∙ t)) w.write.ensures.written)
       | else-not-contains w ↦
-          subst P (sym w.below-is) (
-            c.loop-k.invariant.0,
-            clear_skip a own wide v b k d c.loop-k.invariant.1 (ap (within own) (sym e) ∙ sym w.if-not-contains.ensures),
-          )
+          subst P (sym w.below-is) (clear_skip a own wide v b k d c.loop-k.invariant (ap (within own) (sym e) ∙ sym w.if-not-contains.ensures))
     ]
 
 pub returns-in_default : goal.returns-in_default
@@ -46,9 +39,5 @@ returns-in_default g c =
 
 pub returns : goal.returns
 returns g c =
-    let own = extents_of c.args.own.now in let wide = extents_of c.args.wide.now in
-    record {
-      kept = c.loop-k.invariant.0;
-      cleared = clear_all g.K.Kind.algebra own wide c.args.v (g.S.Store.meaning c.args.below.now) c.loop-k.k (g.S.Store.meaning c.loop-k.below)
-          (omega (arith, c.size-k-end.ensures, c.loop-k-test.false)) c.loop-k.invariant.1;
-    }
+    clear_all g.K.Kind.algebra (extents_of c.args.own.now) (extents_of c.args.wide.now) c.args.v (g.S.Store.meaning c.args.below.now) c.loop-k.k (g.S.Store.meaning c.loop-k.below)
+    (omega (arith, c.size-k-end.ensures, c.loop-k-test.false)) c.loop-k.invariant

@@ -1,26 +1,14 @@
-use Rattle.std.proofs.Common.{◌≤◌, cond, ◌&&◌, leb, sym, ap, ◌∙◌, arith}
-use Rattle.std.proofs.lemmas.Bool.{cond-true}
-use Rattle.refusals.specs.Refusals.{refused, and_then}
+use Rattle.std.proofs.Common.{◌≡◌, sym, ap, ◌∙◌}
 use Rattle.shapes.specs.Shapes.{shapes_of}
-use Rattle.shapes.proofs.Tables.{counted}
-use Rattle.stores.specs.Matching.{difference}
+use Rattle.shapes.proofs.Asked.{done_since}
 use Rattle.stores.proofs.Compared.{difference_none}
-use Rattle.padding.specs.Padding.{matched}
-use Rattle.padding.specs.Rounding.{rounding}
+use Rattle.padding.specs.Rounding.{all_rounded}
 use Rattle.padding.specs.Rounded.{rounding_since}
 use Rattle.padding.proofs.layer.judge.Goals as goal
 
-pub returns-in-None : goal.returns-in-None
-returns-in-None g c =
-    let below = (g.S.Store.meaning c.args.below.now).shapes in let m = c.args.m in
+pub returns-in-Ok-clause-wide : goal.returns-in-Ok-clause-wide
+returns-in-Ok-clause-wide g c =
+    let below = (g.S.Store.meaning c.args.below.now).shapes in let m = c.in_ok-length.length.count in
     let ss = shapes_of c.in_ok-table.table in let rs = shapes_of c.in_ok-wide.wide in
-    let bounds = c.vector_lengths-least.ensures.bounds in
-    let low : 1 ≤ m = omega (arith, bounds.0, c.if-m-least.false) in
-    let high : m ≤ 16 = omega (arith, bounds.1, c.if-m-greatest.false) in
-    record {
-      answer = ap (matched 11 ss) c.in-None.ensures
-          ∙ ap (λ t. and_then t (λ r. matched 11 ss (difference r below))) c.in_ok-wide.ensures
-          ∙ sym (cond-true (leb 1 m && leb m 16) _ _ (counted 16 m low high))
-          ∙ ap (λ t. and_then t (λ s. cond (leb 1 m && leb m 16) (and_then (rounding m s) (λ r. matched 11 s (difference r below))) (refused 9 0))) c.in_ok-table.ensures;
-      wide = (low, rounding_since rs m ss c.in_ok-wide.ensures, sym (difference_none rs below c.in-None.ensures));
-    }
+    let n : m ≡ c.args.m = (done_since _ _ _ _ _ c.in_ok-length.ensures).1 in
+    (n, sym (difference_none rs below c.in-Ok.ensures) ∙ rounding_since rs m ss c.in_ok-wide.ensures ∙ ap (λ t. all_rounded t ss) n)

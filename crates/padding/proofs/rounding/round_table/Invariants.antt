@@ -1,9 +1,0 @@
-use Rattle.std.proofs.Common.{◌≡◌, ◌+◌, take, drop}
-use Rattle.shapes.specs.Shapes.{shapes_of}
-use Rattle.padding.specs.Rounding.{all_rounded, rounding, rounding_from}
-use Rattle.padding.proofs.rounding.round_table.Given as goal
-
-abbrev pub invariant-loop-k : goal.invariant-loop-k
-invariant-loop-k l =
-    (shapes_of l.wide ≡ all_rounded l.m (take l.k (shapes_of l.table)))
-    × (rounding_from (all_rounded l.m (shapes_of l.table)) l.m (l.k + 1) (drop l.k (shapes_of l.table)) ≡ rounding l.m (shapes_of l.table))
