@@ -32,10 +32,10 @@ pub(super) fn clear_all<K: Kind, S: Store<Item = K>>(below: &mut S, own: &Table)
     requires { length (shapes_of own.now) ≡ length (S.Store.meaning below.old).shapes }
     ensures { Cleared K.Kind.algebra.zero (shapes_of own.now) (S.Store.meaning below.old) (S.Store.meaning below.new) }
 {
-    for k in 0..own.len() {
-        let (Ok(inner), Ok(outer)) = (own.shape(k + 1), below.table().shape(k + 1)) else {
+    for (k, inner) in own.shapes().iter().enumerate() {
+        let Ok(outer) = below.table().shape(k + 1) else {
             return;
         };
-        clear(below, k + 1, &inner, &outer);
+        clear(below, k + 1, inner, &outer);
     }
 }

@@ -36,7 +36,7 @@ fn judge<S: Store>(
     ensures answer { answer (λ p. shapes_of p.0) result ≡ padding_answer declared.now m (S.Store.meaning below.now).shapes }
     ensures wide { IfOk result (λ p. (p.1.count ≡ m) × ((S.Store.meaning below.now).shapes ≡ all_rounded m (shapes_of p.0))) }
 {
-    let table = Table::of(declared)?;
+    let table = Table::try_from(declared)?;
     let length = VectorLength::try_from(m)?;
     let wide = length.round_table(&table)?;
     match difference(&wide, below) {

@@ -31,10 +31,8 @@ impl VectorLength {
         for (d, e) in es.iter().enumerate() {
             extents[d] = self.round(*e);
         }
-        Shape::of(&Declaration {
-            rank: es.len() as u16,
-            extents,
-        })
+        let rank = es.len() as u16;
+        Shape::try_from(&Declaration { rank, extents }).ok()
     }
 
     // The table with every shape rounded up.
@@ -42,12 +40,11 @@ impl VectorLength {
         ensures { answer shapes_of result ≡ rounding self.count (shapes_of table.now) }
     {
         let mut wide = Table::empty();
-        for k in 0..table.len() {
-            let shape = table.shape(k + 1)?;
-            let Some(shape) = self.round_shape(&shape) else {
+        for (k, shape) in table.shapes().iter().enumerate() {
+            let Some(rounded) = self.round_shape(shape) else {
                 return Err(Refusal::TooWide(k + 1));
             };
-            let _ = wide.add(shape);
+            wide.add(rounded)?;
         }
         Ok(wide)
     }

@@ -1,6 +1,6 @@
 // Padding over padding over cells, and what opening refuses.
 use super::layer::open;
-use elements::metres::{Metres, metres};
+use elements::metres::Metres;
 use refusals::refusal::Refusal;
 use shapes::declaration::Declaration;
 use std::test::Fail;
@@ -17,7 +17,7 @@ const fn row(extent: u16) -> Declaration {
 
 // Cells of extent 9 that hold 7 everywhere.
 fn nine_cells(rt: &HostRuntime) -> Result<Cells<Metres>, Fail> {
-    let elements = vec![in rt.alloc(); metres(7); 9]?;
+    let elements = vec![in rt.alloc(); Metres::of(7); 9]?;
     match Cells::open(&[row(9)], elements) {
         Ok(cells) => Ok(cells),
         Err(_) => Err(Fail::new("not opened")),
@@ -35,14 +35,17 @@ fn layers_stand_on_layers(rt: HostRuntime) -> Result<(), Fail> {
     assert_eq!(rt; top.extent(1, 1), Ok(5));
     assert_eq!(rt; top.rounded(1, 1), Ok(9));
     for c in 0..9 {
-        let held = if c < 5 { metres(7) } else { metres(0) };
+        let held = if c < 5 { Metres::of(7) } else { Metres::of(0) };
         assert_eq!(rt; top.read(1, &[c + 1]), Ok(held));
     }
-    assert_eq!(rt; top.write(1, &[6], metres(3)), Err(Refusal::SpareTakesZero));
-    assert_eq!(rt; top.write(1, &[6], metres(0)), Ok(()));
+    assert_eq!(rt;
+        top.write(1, &[6], Metres::of(3)),
+        Err(Refusal::SpareTakesZero)
+    );
+    assert_eq!(rt; top.write(1, &[6], Metres::of(0)), Ok(()));
     let mut middle = top.close();
-    assert_eq!(rt; middle.write(1, &[6], metres(3)), Ok(()));
-    assert_eq!(rt; middle.read(1, &[6]), Ok(metres(3)));
+    assert_eq!(rt; middle.write(1, &[6], Metres::of(3)), Ok(()));
+    assert_eq!(rt; middle.read(1, &[6]), Ok(Metres::of(3)));
     Ok(())
 }
 
