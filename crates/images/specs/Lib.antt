@@ -1,5 +1,6 @@
 pub mod Bytes
 pub mod Layout
+pub mod Filled
 pub mod Image
 pub mod Cells
 pub mod Numbers

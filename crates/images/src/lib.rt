@@ -4,6 +4,7 @@
 #![tactic(auto)]
 
 mod buffer;
+pub mod filling;
 pub mod image;
 mod opening;
 #[cfg(test)]

@@ -1,8 +1,10 @@
 // The image of A (2 3), B (3 2) and C (2 2), as it lies, and what opening refuses.
+use super::filling::filled;
 use super::image::Image;
 use elements::metres::Metres;
 use refusals::refusal::Refusal;
 use shapes::declaration::Declaration;
+use shapes::table::Table;
 use std::alloc::{AllocError, Global};
 use std::test::Fail;
 use stores::store::Store;
@@ -75,5 +77,21 @@ fn a_write_sets_eight_bytes(rt: HostRuntime) -> Result<(), Fail> {
     let bytes = image.close();
     assert!(rt; bytes.len() == 156);
     assert!(rt; bytes[44] == 0 && bytes[48] == 0x80 && bytes[51] == 5 && bytes[52] == 0);
+    Ok(())
+}
+
+#[test]
+fn an_image_is_filled(rt: HostRuntime) -> Result<(), Fail> {
+    let Ok(table) = Table::try_from(TABLES.as_slice()) else {
+        return Err(Fail::new("no table"));
+    };
+    let bytes = filled(rt.alloc(), &table, Metres::of(7))?;
+    assert!(rt; bytes.len() == 156);
+    assert_eq!(rt; &bytes[..28], HEADER.as_slice());
+    let Ok(image) = Image::<Metres>::open(&TABLES, bytes) else {
+        return Err(Fail::new("not opened"));
+    };
+    assert_eq!(rt; image.read(1, &[1, 1]), Ok(Metres::of(7)));
+    assert_eq!(rt; image.read(3, &[2, 2]), Ok(Metres::of(7)));
     Ok(())
 }
