@@ -6,11 +6,11 @@ use Rattle.indices.specs.Places.{pick}
 use Rattle.refusals.specs.Refusals.{done, and_then}
 use Rattle.sheets.specs.declared.checked.CheckedSheet.{CheckedSheet}
 use Rattle.sheets.specs.declared.form.Form.{Form}
-use Rattle.sheets.specs.declared.form.Form.TheVariants.{Variable, Outer, Sum, Difference, Product, Quotient, Transposition, Contraction}
+use Rattle.sheets.specs.declared.form.Form.TheVariants.{Variable, Outer, Pointwise, Transposition, Contraction}
 use Rattle.sheets.specs.declared.node.Node.{Node}
 use Rattle.sheets.specs.Forms.{form_of, tidy}
 use Rattle.sheets.specs.Rules.{info_at, earlier}
-use Rattle.sheets.specs.Language.{Expr, plus, minus, times, over, variable, outer, pointwise, turned, contracted, Typed, depth, nesting, of_one, of_two, formed, formed_as, expr_at, exprs_from, expr_of, operand, blank}
+use Rattle.sheets.specs.Language.{Expr, meant, variable, outer, pointwise, turned, contracted, Typed, depth, nesting, of_one, of_two, formed, formed_as, expr_at, exprs_from, expr_of, operand, blank}
 use Rattle.sheets.specs.Sheets.{Contents, contents}
 use Rattle.sheets.specs.Terms.{known, expression_of, node_there, no_node, node_at, term_as, term_of, Unfolds, NodeMeans, StatementMeans, Judged}
 use Rattle.sheets.specs.Verdict.{infos_from, statements_from, tables}
@@ -76,10 +76,7 @@ module _ (c : Contents) (k : ℕ) (e : Expr) (is-e : expr_of c.nodes k ≡ Some 
   by_form : (nd : Node) (f : Form) → formed f nd (operand all k nd.a) (operand all k nd.b) ≡ Some e → Unfolds c k (term_as nd (Some f))
   by_form nd Variable h = let q : e ≡ variable nd.a = cc in ap known is-e ∙ q
   by_form nd Outer h = by_two outer nd.a nd.b h
-  by_form nd Sum h = by_two (pointwise plus) nd.a nd.b h
-  by_form nd Difference h = by_two (pointwise minus) nd.a nd.b h
-  by_form nd Product h = by_two (pointwise times) nd.a nd.b h
-  by_form nd Quotient h = by_two (pointwise over) nd.a nd.b h
+  by_form nd (Pointwise op) h = by_two (pointwise (meant op)) nd.a nd.b h
   by_form nd Transposition h = by_one (turned nd.m nd.n) nd.a h
   by_form nd Contraction h = by_one (contracted nd.m nd.n) nd.a h
 

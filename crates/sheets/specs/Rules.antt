@@ -3,6 +3,7 @@
 --   info_of       that of a judgement
 --   earlier       j is the number of a node before k
 --   present       question 14: the variable is declared, or each operand is an earlier node
+--   pointwise     what the rule of an operation, element by element, gives
 --   ruled         question 15: what the form's rule gives
 --   bounded       question 16: rank at most 8, depth at most 16, nesting at most 3
 --   node_answer   the four questions about node k, in order
@@ -12,9 +13,11 @@ use Rattle.indices.specs.Places.{pick, at1, has}
 use Rattle.refusals.specs.Refusals.{Answer, done, refused}
 use Rattle.indices.specs.Coordinates.{coordinates}
 use Rattle.sheets.specs.declared.form.Form.{Form}
-use Rattle.sheets.specs.declared.form.Form.TheVariants.{Variable, Outer, Sum, Difference, Product, Quotient, Transposition, Contraction}
+use Rattle.sheets.specs.declared.form.Form.TheVariants.{Variable, Outer, Pointwise, Transposition, Contraction}
 use Rattle.sheets.specs.declared.judgement.Judgement.{Judgement}
 use Rattle.sheets.specs.declared.node.Node.{Node}
+use Rattle.sheets.specs.declared.term.Operation.{Operation}
+use Rattle.sheets.specs.declared.term.Operation.TheVariants.{Plus, Minus, Times, Over}
 use Rattle.sheets.specs.Forms.{form_of, tidy}
 
 pub record Info : Type 0 where
@@ -34,10 +37,7 @@ earlier j k = nat_le 1 j && nat_lt j k
 abbrev pub present : List (List ℕ) → ℕ → Form → Node → Bool
 present ss k Variable nd = has ss nd.a
 present ss k Outer nd = earlier nd.a k && earlier nd.b k
-present ss k Sum nd = earlier nd.a k && earlier nd.b k
-present ss k Difference nd = earlier nd.a k && earlier nd.b k
-present ss k Product nd = earlier nd.a k && earlier nd.b k
-present ss k Quotient nd = earlier nd.a k && earlier nd.b k
+present ss k (Pointwise op) nd = earlier nd.a k && earlier nd.b k
 present ss k Transposition nd = earlier nd.a k
 present ss k Contraction nd = earlier nd.a k
 
@@ -58,6 +58,12 @@ scaled x y = cond (scalar x.extents) (Some (above x y y.extents)) (paired x y)
 abbrev pub divided : Info → Info → Option Info
 divided x y = cond (scalar y.extents) (Some (above x y x.extents)) (paired x y)
 
+abbrev pub pointwise : Operation → Info → Info → Option Info
+pointwise Plus x y = paired x y
+pointwise Minus x y = paired x y
+pointwise Times x y = scaled x y
+pointwise Over x y = divided x y
+
 abbrev pub turned : Info → ℕ → ℕ → Option Info
 turned x m n =
     cond (two_of m n (length x.extents)) (Some (record { extents = exchanged m n x.extents; depth = x.depth + 1; nesting = x.nesting })) None
@@ -71,10 +77,7 @@ contracted x m n =
 abbrev pub ruled : List (List ℕ) → Form → Node → Info → Info → Option Info
 ruled ss Variable nd x y = Some (record { extents = pick ss nd.a; depth = 1; nesting = 0 })
 ruled ss Outer nd x y = Some (above x y (x.extents ++ y.extents))
-ruled ss Sum nd x y = paired x y
-ruled ss Difference nd x y = paired x y
-ruled ss Product nd x y = scaled x y
-ruled ss Quotient nd x y = divided x y
+ruled ss (Pointwise op) nd x y = pointwise op x y
 ruled ss Transposition nd x y = turned x nd.m nd.n
 ruled ss Contraction nd x y = contracted x nd.m nd.n
 

@@ -5,7 +5,7 @@ ghost use Rattle.shapes.specs.Shapes.{shapes_of};
 ghost use Rattle.indices.specs.Places.{has, pick};
 ghost use Rattle.sheets.specs.Rules.{info_of, earlier as earlier_of, present as present_of, bounded_answer, ruled, node_answer, info_at, nothing};
 
-use super::form::{Form, form_of, tidy};
+use super::form::{Form, tidy};
 use super::judgement::Judgement;
 use super::node::Node;
 use super::rules;
@@ -17,7 +17,7 @@ use shapes::table::Table;
 fn earlier(j: u16, k: usize) -> bool
     ensures { result ≡ earlier_of j k }
 {
-    1 <= j && (j as usize) < k
+    1 <= j && usize::from(j) < k
 }
 
 // Whether the variable of a node is declared, or each operand is an earlier node.
@@ -25,10 +25,8 @@ fn present(table: &Table, k: usize, form: Form, node: Node) -> bool
     ensures { result ≡ present_of (shapes_of table.now) k form node }
 {
     match form {
-        Form::Variable => table.shape(node.a as usize).is_ok(),
-        Form::Outer | Form::Sum | Form::Difference | Form::Product | Form::Quotient => {
-            earlier(node.a, k) && earlier(node.b, k)
-        }
+        Form::Variable => table.shape(usize::from(node.a)).is_ok(),
+        Form::Outer | Form::Pointwise(_) => earlier(node.a, k) && earlier(node.b, k),
         Form::Transposition | Form::Contraction => earlier(node.a, k),
     }
 }
@@ -67,14 +65,11 @@ fn rule(
     requires { present_of (shapes_of table.now) k form node ≡ true }
     ensures { answer info_of result ≡ bounded_answer k (ruled (shapes_of table.now) form node (info_of x) (info_of y)) }
 {
-    let m = node.m as usize;
-    let n = node.n as usize;
+    let (m, n) = (usize::from(node.m), usize::from(node.n));
     match form {
         Form::Variable => variable(table, node.a, k),
         Form::Outer => rules::outer(x, y, k),
-        Form::Sum | Form::Difference => rules::paired(x, y, k),
-        Form::Product => rules::scaled(x, y, k),
-        Form::Quotient => rules::divided(x, y, k),
+        Form::Pointwise(operation) => rules::pointwise(operation, x, y, k),
         Form::Transposition => rules::turned(x, m, n, k),
         Form::Contraction => rules::contracted(x, m, n, k),
     }
@@ -85,13 +80,9 @@ fn variable(table: &Table, a: u16, k: usize) -> Result<Judgement, Refusal>
     requires { has (shapes_of table.now) a ≡ true }
     ensures { answer info_of result ≡ bounded_answer k (Some (record { extents = pick (shapes_of table.now) a; depth = 1; nesting = 0 })) }
 {
-    match table.shape(a as usize) {
-        Ok(shape) => match Index::of(shape.extents()) {
-            Some(extents) => rules::bounded(extents, 1, 0, k),
-            None => Err(Refusal::TooDeep(k)),
-        },
-        Err(refusal) => Err(refusal),
-    }
+    let shape = table.shape(usize::from(a))?;
+    let extents = Index::of(shape.extents()).ok_or(Refusal::TooDeep(k))?;
+    rules::bounded(extents, 1, 0, k)
 }
 
 // The four questions about node k, given the judgements on those before it.
@@ -103,9 +94,7 @@ pub(super) fn judge_node(
 ) -> Result<Judgement, Refusal>
     ensures { answer info_of result ≡ node_answer (shapes_of table.now) k (map info_of judged.now) node }
 {
-    let Some(form) = form_of(node.kind) else {
-        return Err(Refusal::BadNode(k));
-    };
+    let form = Form::try_from(node.kind).map_err(|_| Refusal::BadNode(k))?;
     if !tidy(form, node) {
         return Err(Refusal::BadNode(k));
     }

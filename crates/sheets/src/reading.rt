@@ -8,10 +8,10 @@ ghost use Rattle.sheets.specs.Sheets.{contents};
 ghost use Rattle.sheets.specs.Terms.{node_there, made_of, term_as, term_of, Told};
 
 use super::checked::CheckedSheet;
-use super::form::{Form, form_of};
+use super::form::Form;
 use super::node::{Node, Statement};
 use super::nodes::known;
-use super::term::{Operation, Term};
+use super::term::Term;
 use shapes::table::Table;
 
 impl CheckedSheet {
@@ -64,10 +64,8 @@ impl CheckedSheet {
 fn made_of(node: Node) -> Option<Term>
     ensures { result ≡ term_as node (form_of node.kind) }
 {
-    match form_of(node.kind) {
-        Some(form) => Some(term_of(form, node)),
-        None => None,
-    }
+    let form = Form::try_from(node.kind).ok()?;
+    Some(term_of(form, node))
 }
 
 // What a node of this form is made of.
@@ -75,15 +73,11 @@ fn term_of(form: Form, node: Node) -> Term
     ensures { result ≡ made_of form node }
 {
     let Node { a, b, m, n, .. } = node;
-    let operation = match form {
-        Form::Variable => return Term::Variable { variable: a },
-        Form::Outer => return Term::Outer { a, b },
-        Form::Transposition => return Term::Turned { a, m, n },
-        Form::Contraction => return Term::Contracted { a, m, n },
-        Form::Sum => Operation::Plus,
-        Form::Difference => Operation::Minus,
-        Form::Product => Operation::Times,
-        Form::Quotient => Operation::Over,
-    };
-    Term::Pointwise { operation, a, b }
+    match form {
+        Form::Variable => Term::Variable { variable: a },
+        Form::Outer => Term::Outer { a, b },
+        Form::Pointwise(operation) => Term::Pointwise { operation, a, b },
+        Form::Transposition => Term::Turned { a, m, n },
+        Form::Contraction => Term::Contracted { a, m, n },
+    }
 }
