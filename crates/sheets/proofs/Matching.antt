@@ -33,11 +33,11 @@ pub record Related (ss : List (List ℕ)) (es : List (Option Expr)) (is : List I
 module _ {X : Type 0} where
   some_when : (b : Bool) (x y : X) → cond b (Some y) None ≡ Some x → (b ≡ true) × (y ≡ x)
   some_when true x y e = (refl, cc)
-  some_when false x y e = absurd (let z : ◌≡◌ {A = ℕ} 0 1 = cc in omega arith)
+  some_when false x y e = absurd (cc)
 
   pub there_when : (b : Bool) (o : Option X) (x : X) → cond b o None ≡ Some x → (b ≡ true) × (o ≡ Some x)
   there_when true o x e = (refl, e)
-  there_when false o x e = absurd (let z : ◌≡◌ {A = ℕ} 0 1 = cc in omega arith)
+  there_when false o x e = absurd (cc)
 
   pub at_left : (xs : List X) (x d : X) (j : ℕ) → j ≤ length xs → get_or (d ∷ (xs ++ x ∷ [])) j d ≡ get_or (d ∷ xs) j d
   at_left xs x d j h = get_or_append_left (d ∷ xs) (x ∷ []) d j (omega arith)
@@ -54,14 +54,14 @@ scalar_from i e = eq-eqb (length i.extents) 0 (ap length e)
 
 -- the four questions, answered
 asked : (k : ℕ) (t p : Bool) (o : Option Info) (i : Info) → cond t (cond p (bounded_answer k o) (refused 14 k)) (refused 13 k) ≡ done i → (t ≡ true) × (p ≡ true) × (o ≡ Some i) × (bounded i ≡ true)
-asked k false p o i e = absurd (let z : ◌≡◌ {A = ℕ} 0 1 = cc in omega arith)
-asked k true false o i e = absurd (let z : ◌≡◌ {A = ℕ} 0 1 = cc in omega arith)
-asked k true true None i e = absurd (let z : ◌≡◌ {A = ℕ} 0 1 = cc in omega arith)
+asked k false p o i e = absurd (cc)
+asked k true false o i e = absurd (cc)
+asked k true true None i e = absurd (cc)
 asked k true true (Some x) i e = by (bounded x) refl e
   where
     by : (b : Bool) → bounded x ≡ b → cond b (done x) (refused 16 k) ≡ done i → (true ≡ true) × (true ≡ true) × (Some x ≡ Some i) × (bounded i ≡ true)
     by true q e = let f : x ≡ i = cc in (refl, refl, ap Some f, ap bounded (sym f) ∙ q)
-    by false q e = absurd (let z : ◌≡◌ {A = ℕ} 0 1 = cc in omega arith)
+    by false q e = absurd (cc)
 
 module _ {ss : List (List ℕ)} where
   moved : (o : Option Expr) (x y : Info) → x ≡ y → Known ss o x → Known ss o y
@@ -147,12 +147,12 @@ given_from ss o e i h r =
     subst (λ x. Given ss x i) q (record { typed = r.typed; deep = r.deep; nested = r.nested })
 
 pub two_parts : (g : Expr → Expr → Expr) (o p : Option Expr) (e : Expr) → of_two g o p ≡ Some e → (x : Expr) × (y : Expr) × (o ≡ Some x) × (p ≡ Some y) × (g x y ≡ e)
-two_parts g None p e h = absurd (let z : ◌≡◌ {A = ℕ} 0 1 = cc in omega arith)
-two_parts g (Some x) None e h = absurd (let z : ◌≡◌ {A = ℕ} 0 1 = cc in omega arith)
+two_parts g None p e h = absurd (cc)
+two_parts g (Some x) None e h = absurd (cc)
 two_parts g (Some x) (Some y) e h = (x, y, refl, refl, cc)
 
 pub one_part : (g : Expr → Expr) (o : Option Expr) (e : Expr) → of_one g o ≡ Some e → (x : Expr) × (o ≡ Some x) × (g x ≡ e)
-one_part g None e h = absurd (let z : ◌≡◌ {A = ℕ} 0 1 = cc in omega arith)
+one_part g None e h = absurd (cc)
 one_part g (Some x) e h = (x, refl, cc)
 
 module _ {ss : List (List ℕ)} (x y : Info) (a b : Expr) (t : List ℕ) (r : Given ss a x) (s : Given ss b y) where
@@ -235,7 +235,7 @@ module _ (ss : List (List ℕ)) (es : List (Option Expr)) (is : List Info) (all 
       moved _ _ i q.1 (contracted_known nd.m nd.n (operand es k nd.a) x (operand_known nd.a h) p.0 (eqb-true _ _ q.0))
 
   pub sound : (f : Option Form) (i : Info) → form_answer ss k is nd f ≡ done i → Known ss (formed_as es k nd f) i × (bounded i ≡ true)
-  sound None i e = absurd (let z : ◌≡◌ {A = ℕ} 0 1 = cc in omega arith)
+  sound None i e = absurd (cc)
   sound (Some f) i e =
       let p = asked k (tidy f nd) (present ss k f nd) (ruled ss f nd (info_at is nd.a) (info_at is nd.b)) i e in
       let r = form_sound f i p.1 p.2 in
@@ -299,7 +299,7 @@ module _ (ss : List (List ℕ)) (es : List (Option Expr)) (is : List Info) (all 
       })
 
   pub complete : (f : Option Form) (e : Expr) (t : List ℕ) → formed_as es k nd f ≡ Some e → Typed ss e t → length t ≤ 8 → depth e ≤ 16 → nesting e ≤ 3 → (i : Info) × (form_answer ss k is nd f ≡ done i)
-  complete None e t h w l m n = absurd (let z : ◌≡◌ {A = ℕ} 0 1 = cc in omega arith)
+  complete None e t h w l m n = absurd (cc)
   complete (Some f) e t h w l m n =
       let p = there_when (tidy f nd) (formed f nd (operand es k nd.a) (operand es k nd.b)) e h in
       let q = form_complete f e t p.1 w in

@@ -1,6 +1,7 @@
 -- What each form's rule makes of its operands, and the questions about one node.
 --   Info          what is known of a node: its extents, depth and nesting
 --   info_of       that of a judgement
+--   info_in       that of a judged node; node_in, the node itself
 --   earlier       j is the number of a node before k
 --   present       question 14: the variable is declared, or each operand is an earlier node
 --   pointwise     what the rule of an operation, element by element, gives
@@ -14,6 +15,7 @@ use Rattle.refusals.specs.Refusals.{Answer, done, refused}
 use Rattle.indices.specs.Coordinates.{coordinates}
 use Rattle.sheets.specs.declared.form.Form.{Form}
 use Rattle.sheets.specs.declared.form.Form.TheVariants.{Variable, Outer, Pointwise, Transposition, Contraction}
+use Rattle.sheets.specs.declared.passed.JudgedNode.{JudgedNode}
 use Rattle.sheets.specs.declared.judgement.Judgement.{Judgement}
 use Rattle.sheets.specs.declared.node.Node.{Node}
 use Rattle.sheets.specs.declared.term.Operation.{Operation}
@@ -27,6 +29,12 @@ pub record Info : Type 0 where
 
 abbrev pub info_of : Judgement → Info
 info_of j = record { extents = coordinates j.extents; depth = j.depth; nesting = j.nesting }
+
+abbrev pub info_in : JudgedNode → Info
+info_in j = info_of j.judgement
+
+abbrev pub node_in : JudgedNode → Node
+node_in j = j.node
 
 abbrev pub scalar : List ℕ → Bool
 scalar es = length es == 0
@@ -94,6 +102,13 @@ nothing = record { extents = []; depth = 0; nesting = 0 }
 -- what is known of node j, from 1
 abbrev pub info_at : List Info → ℕ → Info
 info_at is j = slice_index_or (nothing ∷ is) j nothing
+
+-- questions 14 to 16 about a variable; question 14 about one operand of the node after those that are known
+abbrev pub variable_answer : List (List ℕ) → ℕ → ℕ → Answer Info
+variable_answer ss k v = cond (has ss v) (bounded_answer k (Some (record { extents = pick ss v; depth = 1; nesting = 0 }))) (refused 14 k)
+
+abbrev pub operand_answer : List Info → ℕ → Answer Info
+operand_answer is j = cond (earlier j (length is + 1)) (done (info_at is j)) (refused 14 (length is + 1))
 
 abbrev pub form_answer : List (List ℕ) → ℕ → List Info → Node → Option Form → Answer Info
 form_answer ss k is nd None = refused 13 k

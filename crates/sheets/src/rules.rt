@@ -48,7 +48,12 @@ pub(crate) fn outer(x: Judgement, y: Judgement, k: usize) -> Result<Judgement, R
 }
 
 // Element by element, of nodes of one type; but a product's first operand and a quotient's second may be a scalar.
-pub(crate) fn pointwise(operation: Operation, x: Judgement, y: Judgement, k: usize) -> Result<Judgement, Refusal>
+pub(crate) fn pointwise(
+    operation: Operation,
+    x: Judgement,
+    y: Judgement,
+    k: usize,
+) -> Result<Judgement, Refusal>
     ensures { answer info_of result ≡ bounded_answer k (pointwise_of operation (info_of x) (info_of y)) }
 {
     let extents = match operation {
