@@ -45,28 +45,13 @@ fn judged_sheet(
     }
     let judged = judge_nodes(&table, nodes)?;
     judge_statements(&table, &judged[..nodes.len()], statements)?;
-    Ok(checked(table, nodes.len(), judged, statements))
-}
-
-// The sheet of tables that passed, of which the nodes are the first ones of the judged.
-fn checked(
-    table: Table,
-    node_count: usize,
-    nodes: [JudgedNode; 256],
-    statements: &[Statement],
-) -> CheckedSheet
-    requires few_nodes { node_count ≤ 256 }
-    requires few_statements { length statements.now ≤ 64 }
-    requires passes { tables (shapes_of table) (map node_in (take node_count nodes)) statements.now ≡ done (map info_in (take node_count nodes)) }
-    ensures { contents result ≡ record { shapes = shapes_of table; nodes = map node_in (take node_count nodes); statements = statements.now; infos = map info_in (take node_count nodes) } }
-{
-    CheckedSheet {
+    Ok(CheckedSheet {
         table,
-        node_count,
-        nodes,
+        node_count: nodes.len(),
+        nodes: judged,
         statement_count: statements.len(),
         statements: own(statements),
-    }
+    })
 }
 
 // A table of its own of the statements, with blank ones behind them.
