@@ -7,6 +7,7 @@
 --   pointwise     what the rule of an operation, element by element, gives
 --   ruled         question 15: what the form's rule gives
 --   bounded       question 16: rank at most 8, depth at most 16, nesting at most 3
+--   variable_answer, operand_answer   14 to 16 of a variable; 14 of one operand
 --   node_answer   the four questions about node k, in order
 use Rattle.std.specs.Prelude.{ℕ, ◌+◌, Bool, cond, ◌&&◌, List, [], ◌∷◌, ◌++◌, length, Some, None, Option, ◌==◌, nat_le, nat_lt, slice_index_or}
 use Rattle.indices.specs.Dimensions.{same, two_of, exchanged, removed}

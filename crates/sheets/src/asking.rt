@@ -18,7 +18,7 @@ impl CheckedSheet {
         CheckedSheet {
             table: Table::empty(),
             node_count: 0,
-            nodes: [JudgedNode::blank(); 256],
+            nodes: [JudgedNode::default(); 256],
             statement_count: 0,
             statements: [Statement::default(); 64],
         }

@@ -10,7 +10,7 @@ ghost use Rattle.sheets.specs.Terms.{node_there, node_at, made_of, term_as, term
 use super::checked::CheckedSheet;
 use super::form::Form;
 use super::node::{Node, Statement};
-use super::passed::{JudgedNode, known};
+use super::passed::{JudgedNode, Known};
 use super::term::Term;
 use shapes::table::Table;
 
@@ -27,7 +27,13 @@ impl CheckedSheet {
     pub fn rank(&self, k: u16) -> usize
         ensures { result ≡ length (info_at (contents self.now).infos k).extents }
     {
-        known(self.nodes(), k).map_or(0, |judgement| judgement.extents.as_slice().len())
+        let known = Known {
+            table: &self.table,
+            nodes: self.nodes(),
+        };
+        known
+            .node(k)
+            .map_or(0, |judgement| judgement.extents.as_slice().len())
     }
 
     // How many statements there are.

@@ -9,8 +9,7 @@ ghost use Rattle.sheets.specs.Verdict.{infos_from, statements_from, tables};
 
 use super::checked::CheckedSheet;
 use super::node::{Node, Statement};
-use super::nodes::judge_node;
-use super::passed::{JudgedNode, known};
+use super::passed::{JudgedNode, Known};
 use refusals::refusal::Refusal;
 use shapes::declaration::Declaration;
 use shapes::table::Table;
@@ -44,7 +43,11 @@ fn judged_sheet(
         return Err(Refusal::TooManyRows);
     }
     let judged = judge_nodes(&table, nodes)?;
-    judge_statements(&table, &judged[..nodes.len()], statements)?;
+    let known = Known {
+        table: &table,
+        nodes: &judged[..nodes.len()],
+    };
+    known.judge_statements(statements)?;
     Ok(CheckedSheet {
         table,
         node_count: nodes.len(),
@@ -70,9 +73,13 @@ fn judge_nodes(table: &Table, nodes: &[Node]) -> Result<[JudgedNode; 256], Refus
     ensures infos { answer (λ js. map info_in (take (length nodes.now) js)) result ≡ infos_from (shapes_of table.now) 1 [] nodes.now }
     ensures same { IfOk result (λ js. map node_in (take (length nodes.now) js) ≡ nodes.now) }
 {
-    let mut judged = [JudgedNode::blank(); 256];
+    let mut judged = [JudgedNode::default(); 256];
     for (k, node) in nodes.iter().enumerate() {
-        let judgement = judge_node(table, &judged[..k], *node)?;
+        let known = Known {
+            table,
+            nodes: &judged[..k],
+        };
+        let judgement = known.judge(*node)?;
         judged[k] = JudgedNode {
             node: *node,
             judgement,
@@ -81,35 +88,29 @@ fn judge_nodes(table: &Table, nodes: &[Node]) -> Result<[JudgedNode; 256], Refus
     Ok(judged)
 }
 
-// The questions about the statements, both before the next one's.
-fn judge_statements(
-    table: &Table,
-    judged: &[JudgedNode],
-    statements: &[Statement],
-) -> Result<(), Refusal>
-    ensures { answered result ≡ statements_from (shapes_of table.now) (map info_in judged.now) 1 statements.now }
-{
-    for (k, statement) in statements.iter().enumerate() {
-        judge_statement(table, judged, *statement, k + 1)?;
+impl Known<'_> {
+    // The questions about the statements, both before the next one's.
+    fn judge_statements(&self, statements: &[Statement]) -> Result<(), Refusal>
+        ensures { answered result ≡ statements_from (shapes_of self.now.table.now) (map info_in self.now.nodes.now) 1 statements.now }
+    {
+        for (k, statement) in statements.iter().enumerate() {
+            self.judge_statement(*statement, k + 1)?;
+        }
+        Ok(())
     }
-    Ok(())
-}
 
-// The two questions about statement s.
-fn judge_statement(
-    table: &Table,
-    judged: &[JudgedNode],
-    statement: Statement,
-    s: usize,
-) -> Result<(), Refusal>
-    ensures { answered result ≡ statements_from (shapes_of table.now) (map info_in judged.now) s (statement ∷ []) }
-{
-    let known = known(judged, statement.node).ok_or(Refusal::BadTarget(s))?;
-    let shape = table
-        .shape(usize::from(statement.variable))
-        .map_err(|_| Refusal::BadTarget(s))?;
-    if shape.extents() != known.extents.as_slice() {
-        return Err(Refusal::OtherType(s));
+    // The two questions about statement s.
+    fn judge_statement(&self, statement: Statement, s: usize) -> Result<(), Refusal>
+        ensures { answered result ≡ statements_from (shapes_of self.now.table.now) (map info_in self.now.nodes.now) s (statement ∷ []) }
+    {
+        let node = self.node(statement.node).ok_or(Refusal::BadTarget(s))?;
+        let shape = self
+            .table
+            .shape(usize::from(statement.variable))
+            .map_err(|_| Refusal::BadTarget(s))?;
+        if shape.extents() != node.extents.as_slice() {
+            return Err(Refusal::OtherType(s));
+        }
+        Ok(())
     }
-    Ok(())
 }

@@ -2,7 +2,7 @@ use Rattle.std.proofs.Common.{◌≡◌, ℕ, ◌&&◌, eqb, List, [], ◌∷◌
 use Rattle.std.proofs.lemmas.Grind.{common_steps}
 use lib.Pointwise.{pointwise}
 use Rattle.indices.specs.Dimensions.{same}
-use Rattle.sheets.proofs.verdict.judge_statement.Goals as goal
+use Rattle.sheets.proofs.passed.Known.judge_statement.Goals as goal
 
 compared : (xs ys : List ℕ) → pointwise eqb xs ys ≡ same xs ys
 compared [] [] = refl

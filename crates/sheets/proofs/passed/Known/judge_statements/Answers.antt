@@ -9,7 +9,7 @@ use Rattle.sheets.specs.declared.node.Statement.{Statement}
 use Rattle.sheets.specs.Language.{blank}
 use Rattle.sheets.specs.Rules.{Info, info_in, info_at}
 use Rattle.sheets.specs.Verdict.{statements_from}
-use Rattle.sheets.proofs.verdict.judge_statements.Goals as goal
+use Rattle.sheets.proofs.passed.Known.judge_statements.Goals as goal
 
 asked : (a b : Bool) (s : ℕ) (w : Answer Unit) → cond a (cond b w (refused 18 s)) (refused 17 s) ≡ and_then {X = Unit} (cond a (cond b (done tt) (refused 18 s)) (refused 17 s)) (λ _. w)
 asked true true s w = refl
@@ -25,7 +25,7 @@ statements_more ss is sts k h = at_drop_more (statements_from ss is (k + 1)) sts
 
 pub returns-in_err-judge_statement : goal.returns-in_err-judge_statement
 returns-in_err-judge_statement c =
-    let ss = shapes_of c.args.table.now in let is = map info_in c.args.judged.now in let sts = c.args.statements.now in let k = c.loop-k.k in
+    let ss = shapes_of c.args.self.now.table.now in let is = map info_in c.args.self.now.nodes.now in let sts = c.args.statements.now in let k = c.loop-k.k in
     let p = err_from_is_err_and c.from_residual.result c.from_residual.ensures.1 in
     rw (p.1, p.2)
     (ap (λ a. and_then a (λ _. statements_from ss is (k + 1 + 1) (drop (k + 1) sts))) c.in_err-judge_statement.ensures

@@ -1,6 +1,6 @@
 use Rattle.std.proofs.Common.{arith}
 use Rattle.std.proofs.lemmas.Grind.{common_steps}
-use Rattle.sheets.proofs.nodes.judge_node.Goals as goal
+use Rattle.sheets.proofs.passed.Known.judge.Goals as goal
 
 pub returns-in_ok-operand-in-Transposition : goal.returns-in_ok-operand-in-Transposition
 returns-in_ok-operand-in-Transposition c = let t = rw (c.from-m.ensures, c.from-n.ensures) at c.turned.ensures in grind (arith, common_steps)
