@@ -1,9 +1,8 @@
-use Rattle.std.proofs.Common.{◌≡◌, ℕ, true, List, [], map, length, take, sym, ap, ◌∙◌}
+use Rattle.std.proofs.Common.{◌≡◌, ℕ, true, List, [], sym, ap, ◌∙◌, rules}
 use Rattle.refusals.specs.Refusals.{done, and_then}
-use Rattle.shapes.specs.Shapes.{shapes_of}
 use Rattle.sheets.specs.declared.node.Node.{Node}
 use Rattle.sheets.specs.declared.node.Statement.{Statement}
-use Rattle.sheets.specs.Rules.{Info, info_in}
+use Rattle.sheets.specs.Rules.{Info}
 use Rattle.sheets.specs.Verdict.{infos_from, statements_from, tables, finds}
 use Rattle.sheets.proofs.Infos.{found}
 use Rattle.sheets.proofs.verdict.judged_sheet.Goals as goal
@@ -16,5 +15,4 @@ copied ss is ns ms sts rs p q h k =
     found is (tables ss ms rs) (ap (λ xs. tables ss xs rs) p ∙ ap (tables ss ns) q ∙ w ∙ v)
 
 pub invariant_of-result-clause-sound : goal.invariant_of-result-clause-sound
-invariant_of-result-clause-sound c =
-    copied (shapes_of c.in_ok-table.table) (map info_in (take (length c.args.nodes.now) c.in_ok-judged.judged)) _ _ _ _ c.in_ok-judged.ensures.same c.own.ensures c.in_ok-judged.ensures.infos c.in_ok-judge_statements.ensures
+invariant_of-result-clause-sound c = let a = c.in_ok-judged.ensures in let b = c.in_ok-judge_statements.ensures in search (rules, copied)
