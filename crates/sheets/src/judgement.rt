@@ -14,7 +14,7 @@ pub struct Judgement {
     ghost flat: { nesting ≤ 3 },
 }
 
-// Of a node that is not there.
+// What fills a table behind its last node.
 impl Default for Judgement {
     fn default() -> Judgement {
         Judgement {

@@ -40,6 +40,7 @@ fn over_two(x: Judgement, y: Judgement, extents: Index, k: usize) -> Result<Judg
     )
 }
 
+// The extents of the first operand, and then those of the second.
 pub(crate) fn outer(x: Judgement, y: Judgement, k: usize) -> Result<Judgement, Refusal>
     ensures { answer info_of result ≡ bounded_answer k (Some (above (info_of x) (info_of y) (coordinates x.extents ++ coordinates y.extents))) }
 {
