@@ -1,16 +1,16 @@
 -- What is known of a checked sheet. Assumes nothing.
-use Rattle.std.proofs.Common.{◌≡◌, ℕ, zero, suc, ◌+◌, ◌<◌, ◌≤◌, Bool, true, false, cond, ltb, leb, List, [], ◌∷◌, ◌++◌, length, get_or, Some, None, Option, sym, refl, ap, ◌∙◌, subst, arith}
-use Rattle.std.proofs.lemmas.List.{length_push, length-take-le}
+use Rattle.std.proofs.Common.{◌≡◌, ℕ, zero, suc, ◌+◌, ◌<◌, ◌≤◌, Bool, true, false, cond, ltb, leb, List, [], ◌∷◌, ◌++◌, length, get_or, take, Some, None, Option, sym, refl, ap, ◌∙◌, subst, arith}
+use Rattle.std.proofs.lemmas.List.{length_push, length-map, length-take-le}
 use Rattle.std.proofs.lemmas.Bool.{and_parts, and_from, leb-true, ltb-true, le-leb}
 use Rattle.indices.specs.Places.{pick}
 use Rattle.refusals.specs.Refusals.{done, and_then}
 use Rattle.sheets.specs.declared.checked.CheckedSheet.{CheckedSheet}
 use Rattle.sheets.specs.declared.form.Form.{Form}
-use Rattle.sheets.specs.declared.form.Form.TheVariants.{Variable, Outer, Sum, Difference, Product, Quotient, Transposition, Contraction}
+use Rattle.sheets.specs.declared.form.Form.TheVariants.{Variable, Outer, Pointwise, Transposition, Contraction}
 use Rattle.sheets.specs.declared.node.Node.{Node}
 use Rattle.sheets.specs.Forms.{form_of, tidy}
-use Rattle.sheets.specs.Rules.{info_at, earlier}
-use Rattle.sheets.specs.Language.{Expr, plus, minus, times, over, variable, outer, pointwise, turned, contracted, Typed, depth, nesting, of_one, of_two, formed, formed_as, expr_at, exprs_from, expr_of, operand, blank}
+use Rattle.sheets.specs.Rules.{node_in, info_at, earlier}
+use Rattle.sheets.specs.Language.{Expr, meant, variable, outer, pointwise, turned, contracted, Typed, depth, nesting, of_one, of_two, formed, formed_as, expr_at, exprs_from, expr_of, operand, blank}
 use Rattle.sheets.specs.Sheets.{Contents, contents}
 use Rattle.sheets.specs.Terms.{known, expression_of, node_there, no_node, node_at, term_as, term_of, Unfolds, NodeMeans, StatementMeans, Judged}
 use Rattle.sheets.specs.Verdict.{infos_from, statements_from, tables}
@@ -76,15 +76,12 @@ module _ (c : Contents) (k : ℕ) (e : Expr) (is-e : expr_of c.nodes k ≡ Some 
   by_form : (nd : Node) (f : Form) → formed f nd (operand all k nd.a) (operand all k nd.b) ≡ Some e → Unfolds c k (term_as nd (Some f))
   by_form nd Variable h = let q : e ≡ variable nd.a = cc in ap known is-e ∙ q
   by_form nd Outer h = by_two outer nd.a nd.b h
-  by_form nd Sum h = by_two (pointwise plus) nd.a nd.b h
-  by_form nd Difference h = by_two (pointwise minus) nd.a nd.b h
-  by_form nd Product h = by_two (pointwise times) nd.a nd.b h
-  by_form nd Quotient h = by_two (pointwise over) nd.a nd.b h
+  by_form nd (Pointwise op) h = by_two (pointwise (meant op)) nd.a nd.b h
   by_form nd Transposition h = by_one (turned nd.m nd.n) nd.a h
   by_form nd Contraction h = by_one (contracted nd.m nd.n) nd.a h
 
   made : (nd : Node) (o : Option Form) → formed_as all k nd o ≡ Some e → Unfolds c k (term_as nd o)
-  made nd None h = absurd (let z : ◌≡◌ {A = ℕ} 0 1 = cc in omega arith)
+  made nd None h = absurd (cc)
   made nd (Some f) h = by_form nd f (there_when (tidy f nd) _ e h).1
 
 -- tables that pass
@@ -145,7 +142,7 @@ judged s =
     let e : p.0 ≡ c.infos = cc in
     let all = nodes_sound c.shapes c.nodes 1 [] [] c.infos (none_yet c.shapes) refl (p.1 ∙ ap done e) in
     record {
-      few_nodes = omega (arith, a, s.few_nodes);
+      few_nodes = omega (arith, a, length-map (take s.node_count s.nodes) node_in, s.few_nodes);
       few_statements = omega (arith, b, s.few_statements);
       nodes = node_means c all;
       statements = statement_means c all (ap (λ is. statements_from c.shapes is 1 c.statements) (sym e) ∙ q.1);

@@ -4,4 +4,3 @@ pub mod Matching
 pub mod Passing
 pub mod Writing
 pub mod Judged
-pub mod Rows

@@ -7,11 +7,13 @@ use Rattle.indices.specs.Places.{pick, at1}
 use Rattle.refusals.specs.Refusals.{done, refused}
 use Rattle.indices.proofs.Equal.{same_equal, same_self}
 use Rattle.sheets.specs.declared.form.Form.{Form}
-use Rattle.sheets.specs.declared.form.Form.TheVariants.{Variable, Outer, Sum, Difference, Product, Quotient, Transposition, Contraction}
+use Rattle.sheets.specs.declared.form.Form.TheVariants.{Variable, Outer, Pointwise, Transposition, Contraction}
 use Rattle.sheets.specs.declared.node.Node.{Node}
+use Rattle.sheets.specs.declared.term.Operation.{Operation}
+use Rattle.sheets.specs.declared.term.Operation.TheVariants.{Plus, Minus, Times, Over}
 use Rattle.sheets.specs.Forms.{tidy}
-use Rattle.sheets.specs.Rules.{Info, nothing, info_at, earlier, present, larger, above, paired, scalar, scaled, divided, ruled, bounded, bounded_answer, form_answer}
-use Rattle.sheets.specs.Language.{Expr, plus, minus, times, over, Typed, variable, outer, pointwise, turned, contracted, of_variable, of_outer_product, element_by_element, scalar_times, divided_by_scalar, of_transposition, of_contraction, depth, nesting, of_one, of_two, formed, expr_at, operand, formed_as}
+use Rattle.sheets.specs.Rules.{Info, nothing, info_at, earlier, present, larger, above, paired, scalar, scaled, divided, pointwise as pointwise_of, ruled, bounded, bounded_answer, form_answer}
+use Rattle.sheets.specs.Language.{Expr, plus, minus, times, over, meant, Typed, variable, outer, pointwise, turned, contracted, of_variable, of_outer_product, element_by_element, scalar_times, divided_by_scalar, of_transposition, of_contraction, depth, nesting, of_one, of_two, formed, expr_at, operand, formed_as}
 use Rattle.sheets.proofs.Typing.{same_type, variable_type, outer_types, plus_types, minus_types, times_types, over_types, turned_type, contracted_type}
 
 -- what is known of a node is true of its expression
@@ -31,11 +33,11 @@ pub record Related (ss : List (List ℕ)) (es : List (Option Expr)) (is : List I
 module _ {X : Type 0} where
   some_when : (b : Bool) (x y : X) → cond b (Some y) None ≡ Some x → (b ≡ true) × (y ≡ x)
   some_when true x y e = (refl, cc)
-  some_when false x y e = absurd (let z : ◌≡◌ {A = ℕ} 0 1 = cc in omega arith)
+  some_when false x y e = absurd (cc)
 
   pub there_when : (b : Bool) (o : Option X) (x : X) → cond b o None ≡ Some x → (b ≡ true) × (o ≡ Some x)
   there_when true o x e = (refl, e)
-  there_when false o x e = absurd (let z : ◌≡◌ {A = ℕ} 0 1 = cc in omega arith)
+  there_when false o x e = absurd (cc)
 
   pub at_left : (xs : List X) (x d : X) (j : ℕ) → j ≤ length xs → get_or (d ∷ (xs ++ x ∷ [])) j d ≡ get_or (d ∷ xs) j d
   at_left xs x d j h = get_or_append_left (d ∷ xs) (x ∷ []) d j (omega arith)
@@ -43,16 +45,23 @@ module _ {X : Type 0} where
   pub at_end : (xs : List X) (x d : X) (j : ℕ) → j ≡ length xs + 1 → get_or (d ∷ (xs ++ x ∷ [])) j d ≡ x
   at_end xs x d j h = get_or_push (d ∷ xs) x d j (omega arith)
 
+-- a scalar has no extents
+no_extents : (i : Info) → scalar i.extents ≡ true → i.extents ≡ []
+no_extents i h = nil_from_length i.extents (eqb-true (length i.extents) 0 h)
+
+scalar_from : (i : Info) → i.extents ≡ [] → scalar i.extents ≡ true
+scalar_from i e = eq-eqb (length i.extents) 0 (ap length e)
+
 -- the four questions, answered
 asked : (k : ℕ) (t p : Bool) (o : Option Info) (i : Info) → cond t (cond p (bounded_answer k o) (refused 14 k)) (refused 13 k) ≡ done i → (t ≡ true) × (p ≡ true) × (o ≡ Some i) × (bounded i ≡ true)
-asked k false p o i e = absurd (let z : ◌≡◌ {A = ℕ} 0 1 = cc in omega arith)
-asked k true false o i e = absurd (let z : ◌≡◌ {A = ℕ} 0 1 = cc in omega arith)
-asked k true true None i e = absurd (let z : ◌≡◌ {A = ℕ} 0 1 = cc in omega arith)
+asked k false p o i e = absurd (cc)
+asked k true false o i e = absurd (cc)
+asked k true true None i e = absurd (cc)
 asked k true true (Some x) i e = by (bounded x) refl e
   where
     by : (b : Bool) → bounded x ≡ b → cond b (done x) (refused 16 k) ≡ done i → (true ≡ true) × (true ≡ true) × (Some x ≡ Some i) × (bounded i ≡ true)
     by true q e = let f : x ≡ i = cc in (refl, refl, ap Some f, ap bounded (sym f) ∙ q)
-    by false q e = absurd (let z : ◌≡◌ {A = ℕ} 0 1 = cc in omega arith)
+    by false q e = absurd (cc)
 
 module _ {ss : List (List ℕ)} where
   moved : (o : Option Expr) (x y : Info) → x ≡ y → Known ss o x → Known ss o y
@@ -93,62 +102,29 @@ module _ {ss : List (List ℕ)} where
     nester : larger (nesting r.expr) (nesting s.expr) ≡ larger x.nesting y.nesting
     nester = let a = r.nested in let b = s.nested in cc
 
+    two_over : (f : Expr → Expr → Expr) (es : List ℕ) → Typed ss (f r.expr s.expr) es → depth (f r.expr s.expr) ≡ larger (depth r.expr) (depth s.expr) + 1 → nesting (f r.expr s.expr) ≡ larger (nesting r.expr) (nesting s.expr) → Known ss (of_two f o p) (above x y es)
+    two_over f es t d n = record { expr = f r.expr s.expr; unfolds = made_of_two f; typed = t; deep = d ∙ deeper; nested = n ∙ nester }
+
     outer_known : Known ss (of_two outer o p) (above x y (x.extents ++ y.extents))
-    outer_known =
-        record {
-          expr = outer r.expr s.expr;
-          unfolds = made_of_two outer;
-          typed = of_outer_product r.typed s.typed;
-          deep = deeper;
-          nested = nester;
-        }
+    outer_known = two_over outer (x.extents ++ y.extents) (of_outer_product r.typed s.typed) refl refl
 
     paired_known : (i : Info) → paired x y ≡ Some i → (op : _) → Known ss (of_two (pointwise op) o p) i
     paired_known i e op =
         let q = some_when (same x.extents y.extents) i (above x y x.extents) e in
         let t = same_equal x.extents y.extents q.0 in
         moved (of_two (pointwise op) o p) (above x y x.extents) i q.1
-        (record {
-          expr = pointwise op r.expr s.expr;
-          unfolds = made_of_two (pointwise op);
-          typed = element_by_element r.typed (subst (λ u. Typed ss s.expr u) (sym t) s.typed);
-          deep = deeper;
-          nested = nester;
-        })
+        (two_over (pointwise op) x.extents (element_by_element r.typed (subst (λ u. Typed ss s.expr u) (sym t) s.typed)) refl refl)
 
-    scaled_known : (i : Info) → scaled x y ≡ Some i → Known ss (of_two (pointwise times) o p) i
-    scaled_known i e = by (scalar x.extents) refl e
-      where
-        by : (b : Bool) → scalar x.extents ≡ b → cond b (Some (above x y y.extents)) (paired x y) ≡ Some i → Known ss (of_two (pointwise times) o p) i
-        by true h e =
-            let t = nil_from_length x.extents (eqb-true (length x.extents) 0 h) in
-            let q : above x y y.extents ≡ i = cc in
-            moved (of_two (pointwise times) o p) (above x y y.extents) i q
-            (record {
-              expr = pointwise times r.expr s.expr;
-              unfolds = made_of_two (pointwise times);
-              typed = scalar_times (subst (λ u. Typed ss r.expr u) t r.typed) s.typed;
-              deep = deeper;
-              nested = nester;
-            })
-        by false h e = paired_known i e times
+    -- where an operand may be a scalar
+    beside_known : (b : Bool) (es : List ℕ) (i : Info) (op : _) → cond b (Some (above x y es)) (paired x y) ≡ Some i → (b ≡ true → Typed ss (pointwise op r.expr s.expr) es) → Known ss (of_two (pointwise op) o p) i
+    beside_known true es i op e t = let q : above x y es ≡ i = cc in moved (of_two (pointwise op) o p) (above x y es) i q (two_over (pointwise op) es (t refl) refl refl)
+    beside_known false es i op e t = paired_known i e op
 
-    divided_known : (i : Info) → divided x y ≡ Some i → Known ss (of_two (pointwise over) o p) i
-    divided_known i e = by (scalar y.extents) refl e
-      where
-        by : (b : Bool) → scalar y.extents ≡ b → cond b (Some (above x y x.extents)) (paired x y) ≡ Some i → Known ss (of_two (pointwise over) o p) i
-        by true h e =
-            let t = nil_from_length y.extents (eqb-true (length y.extents) 0 h) in
-            let q : above x y x.extents ≡ i = cc in
-            moved (of_two (pointwise over) o p) (above x y x.extents) i q
-            (record {
-              expr = pointwise over r.expr s.expr;
-              unfolds = made_of_two (pointwise over);
-              typed = divided_by_scalar r.typed (subst (λ u. Typed ss s.expr u) t s.typed);
-              deep = deeper;
-              nested = nester;
-            })
-        by false h e = paired_known i e over
+    pointwise_known : (op : Operation) (i : Info) → pointwise_of op x y ≡ Some i → Known ss (of_two (pointwise (meant op)) o p) i
+    pointwise_known Plus i e = paired_known i e plus
+    pointwise_known Minus i e = paired_known i e minus
+    pointwise_known Times i e = beside_known (scalar x.extents) y.extents i times e (λ h. scalar_times (subst (λ u. Typed ss r.expr u) (no_extents x h) r.typed) s.typed)
+    pointwise_known Over i e = beside_known (scalar y.extents) x.extents i over e (λ h. divided_by_scalar r.typed (subst (λ u. Typed ss s.expr u) (no_extents y h) s.typed))
 
 -- the same of an expression that is given
 record Given (ss : List (List ℕ)) (e : Expr) (i : Info) : Type 0 where
@@ -171,12 +147,12 @@ given_from ss o e i h r =
     subst (λ x. Given ss x i) q (record { typed = r.typed; deep = r.deep; nested = r.nested })
 
 pub two_parts : (g : Expr → Expr → Expr) (o p : Option Expr) (e : Expr) → of_two g o p ≡ Some e → (x : Expr) × (y : Expr) × (o ≡ Some x) × (p ≡ Some y) × (g x y ≡ e)
-two_parts g None p e h = absurd (let z : ◌≡◌ {A = ℕ} 0 1 = cc in omega arith)
-two_parts g (Some x) None e h = absurd (let z : ◌≡◌ {A = ℕ} 0 1 = cc in omega arith)
+two_parts g None p e h = absurd (cc)
+two_parts g (Some x) None e h = absurd (cc)
 two_parts g (Some x) (Some y) e h = (x, y, refl, refl, cc)
 
 pub one_part : (g : Expr → Expr) (o : Option Expr) (e : Expr) → of_one g o ≡ Some e → (x : Expr) × (o ≡ Some x) × (g x ≡ e)
-one_part g None e h = absurd (let z : ◌≡◌ {A = ℕ} 0 1 = cc in omega arith)
+one_part g None e h = absurd (cc)
 one_part g (Some x) e h = (x, refl, cc)
 
 module _ {ss : List (List ℕ)} (x y : Info) (a b : Expr) (t : List ℕ) (r : Given ss a x) (s : Given ss b y) where
@@ -201,27 +177,25 @@ module _ {ss : List (List ℕ)} (x y : Info) (a b : Expr) (t : List ℕ) (r : Gi
       let w : same x.extents y.extents ≡ true = ap (same x.extents) (v ∙ sym u) ∙ same_self x.extents in
       record { info = above x y x.extents; given = cond-true (same x.extents y.extents) (Some (above x y x.extents)) None w; typed = u; deep = larger_depth; nested = larger_nesting }
 
-  scaled_made : (Typed ss a t × Typed ss b t) ⊎ (Typed ss a [] × Typed ss b t) → Made (scaled x y) (pointwise times a b) t
-  scaled_made h = by (scalar x.extents) refl h
-    where
-      by : (c : Bool) → scalar x.extents ≡ c → (Typed ss a t × Typed ss b t) ⊎ (Typed ss a [] × Typed ss b t) → Made (cond c (Some (above x y y.extents)) (paired x y)) (pointwise times a b) t
-      by true e (inl p) = record { info = above x y y.extents; given = refl; typed = same_type s.typed p.1; deep = larger_depth; nested = larger_nesting }
-      by true e (inr p) = record { info = above x y y.extents; given = refl; typed = same_type s.typed p.1; deep = larger_depth; nested = larger_nesting }
-      by false e (inl p) = paired_made times p.0 p.1
-      by false e (inr p) =
-          let u = same_type r.typed p.0 in
-          absurd (false≢true (sym e ∙ eq-eqb (length x.extents) 0 (ap length u)))
+  -- where an operand may be a scalar
+  beside_made : (op : _) (c : Bool) (es : List ℕ) → es ≡ t → (Typed ss a t × Typed ss b t) ⊎ (c ≡ true) → Made (cond c (Some (above x y es)) (paired x y)) (pointwise op a b) t
+  beside_made op true es e h = record { info = above x y es; given = refl; typed = e; deep = larger_depth; nested = larger_nesting }
+  beside_made op false es e (inl p) = paired_made op p.0 p.1
+  beside_made op false es e (inr p) = absurd (false≢true p)
 
-  divided_made : (Typed ss a t × Typed ss b t) ⊎ (Typed ss a t × Typed ss b []) → Made (divided x y) (pointwise over a b) t
-  divided_made h = by (scalar y.extents) refl h
-    where
-      by : (c : Bool) → scalar y.extents ≡ c → (Typed ss a t × Typed ss b t) ⊎ (Typed ss a t × Typed ss b []) → Made (cond c (Some (above x y x.extents)) (paired x y)) (pointwise over a b) t
-      by true e (inl p) = record { info = above x y x.extents; given = refl; typed = same_type r.typed p.0; deep = larger_depth; nested = larger_nesting }
-      by true e (inr p) = record { info = above x y x.extents; given = refl; typed = same_type r.typed p.0; deep = larger_depth; nested = larger_nesting }
-      by false e (inl p) = paired_made over p.0 p.1
-      by false e (inr p) =
-          let u = same_type s.typed p.1 in
-          absurd (false≢true (sym e ∙ eq-eqb (length y.extents) 0 (ap length u)))
+  times_made : (Typed ss a t × Typed ss b t) ⊎ (Typed ss a [] × Typed ss b t) → Made (scaled x y) (pointwise times a b) t
+  times_made (inl p) = beside_made times (scalar x.extents) y.extents (same_type s.typed p.1) (inl p)
+  times_made (inr p) = beside_made times (scalar x.extents) y.extents (same_type s.typed p.1) (inr (scalar_from x (same_type r.typed p.0)))
+
+  over_made : (Typed ss a t × Typed ss b t) ⊎ (Typed ss a t × Typed ss b []) → Made (divided x y) (pointwise over a b) t
+  over_made (inl p) = beside_made over (scalar y.extents) x.extents (same_type r.typed p.0) (inl p)
+  over_made (inr p) = beside_made over (scalar y.extents) x.extents (same_type r.typed p.0) (inr (scalar_from y (same_type s.typed p.1)))
+
+  pointwise_made : (op : Operation) → Typed ss (pointwise (meant op) a b) t → Made (pointwise_of op x y) (pointwise (meant op) a b) t
+  pointwise_made Plus h = let p = plus_types h in paired_made plus p.0 p.1
+  pointwise_made Minus h = let p = minus_types h in paired_made minus p.0 p.1
+  pointwise_made Times h = times_made (times_types h)
+  pointwise_made Over h = over_made (over_types h)
 
 -- a node after those so far
 module _ (ss : List (List ℕ)) (es : List (Option Expr)) (is : List Info) (all : Related ss es is) (k : ℕ) (next : k ≡ length is + 1) (nd : Node) where
@@ -249,10 +223,7 @@ module _ (ss : List (List ℕ)) (es : List (Option Expr)) (is : List Info) (all 
       two_known _ h (λ r s.
       let q : above (info_at is nd.a) (info_at is nd.b) ((info_at is nd.a).extents ++ (info_at is nd.b).extents) ≡ i = cc in
       moved _ _ i q (outer_known _ _ _ _ r s))
-  form_sound Sum i h e = two_known _ h (λ r s. paired_known _ _ _ _ r s i e plus)
-  form_sound Difference i h e = two_known _ h (λ r s. paired_known _ _ _ _ r s i e minus)
-  form_sound Product i h e = two_known _ h (λ r s. scaled_known _ _ _ _ r s i e)
-  form_sound Quotient i h e = two_known _ h (λ r s. divided_known _ _ _ _ r s i e)
+  form_sound (Pointwise op) i h e = two_known _ h (λ r s. pointwise_known _ _ _ _ r s op i e)
   form_sound Transposition i h e =
       let x = info_at is nd.a in
       let p = some_when (two_of nd.m nd.n (length x.extents)) i _ e in
@@ -264,7 +235,7 @@ module _ (ss : List (List ℕ)) (es : List (Option Expr)) (is : List Info) (all 
       moved _ _ i q.1 (contracted_known nd.m nd.n (operand es k nd.a) x (operand_known nd.a h) p.0 (eqb-true _ _ q.0))
 
   pub sound : (f : Option Form) (i : Info) → form_answer ss k is nd f ≡ done i → Known ss (formed_as es k nd f) i × (bounded i ≡ true)
-  sound None i e = absurd (let z : ◌≡◌ {A = ℕ} 0 1 = cc in omega arith)
+  sound None i e = absurd (cc)
   sound (Some f) i e =
       let p = asked k (tidy f nd) (present ss k f nd) (ruled ss f nd (info_at is nd.a) (info_at is nd.b)) i e in
       let r = form_sound f i p.1 p.2 in
@@ -298,10 +269,7 @@ module _ (ss : List (List ℕ)) (es : List (Option Expr)) (is : List Info) (all 
       let p = variable_type (subst (λ u. Typed ss u t) (sym q) w) in
       (p.0, subst (λ u. Made (Some (record { extents = pick ss nd.a; depth = 1; nesting = 0 })) u t) q (record { info = record { extents = pick ss nd.a; depth = 1; nesting = 0 }; given = refl; typed = p.1; deep = refl; nested = refl }))
   form_complete Outer e t h w = two_made outer _ e t h w (λ a b r s v. outer_made _ _ a b t r s v)
-  form_complete Sum e t h w = two_made (pointwise plus) _ e t h w (λ a b r s v. let p = plus_types v in paired_made _ _ a b t r s plus p.0 p.1)
-  form_complete Difference e t h w = two_made (pointwise minus) _ e t h w (λ a b r s v. let p = minus_types v in paired_made _ _ a b t r s minus p.0 p.1)
-  form_complete Product e t h w = two_made (pointwise times) _ e t h w (λ a b r s v. scaled_made _ _ a b t r s (times_types v))
-  form_complete Quotient e t h w = two_made (pointwise over) _ e t h w (λ a b r s v. divided_made _ _ a b t r s (over_types v))
+  form_complete (Pointwise op) e t h w = two_made (pointwise (meant op)) _ e t h w (λ a b r s v. pointwise_made _ _ a b t r s op v)
   form_complete Transposition e t h w =
       one_made (turned nd.m nd.n) _ e t h w (λ a r v.
       let x = info_at is nd.a in
@@ -331,7 +299,7 @@ module _ (ss : List (List ℕ)) (es : List (Option Expr)) (is : List Info) (all 
       })
 
   pub complete : (f : Option Form) (e : Expr) (t : List ℕ) → formed_as es k nd f ≡ Some e → Typed ss e t → length t ≤ 8 → depth e ≤ 16 → nesting e ≤ 3 → (i : Info) × (form_answer ss k is nd f ≡ done i)
-  complete None e t h w l m n = absurd (let z : ◌≡◌ {A = ℕ} 0 1 = cc in omega arith)
+  complete None e t h w l m n = absurd (cc)
   complete (Some f) e t h w l m n =
       let p = there_when (tidy f nd) (formed f nd (operand es k nd.a) (operand es k nd.b)) e h in
       let q = form_complete f e t p.1 w in

@@ -19,11 +19,11 @@ use Rattle.sheets.proofs.Matching.{Related, sound, complete, related_push, at_le
 
 pub then_done : {X Y : Type 0} (a : Answer X) (f : X → Answer Y) (y : Y) → and_then a f ≡ done y → (x : X) × (a ≡ done x) × (f x ≡ done y)
 then_done (done x) f y e = (x, refl, e)
-then_done (refused n p) f y e = absurd (let z : ◌≡◌ {A = ℕ} 0 1 = cc in omega arith)
+then_done (refused n p) f y e = absurd (cc)
 
 when_done : {X : Type 0} (b : Bool) (a : Answer X) (n p : ℕ) (x : X) → cond b a (refused n p) ≡ done x → (b ≡ true) × (a ≡ done x)
 when_done true a n p x e = (refl, e)
-when_done false a n p x e = absurd (let z : ◌≡◌ {A = ℕ} 0 1 = cc in omega arith)
+when_done false a n p x e = absurd (cc)
 
 -- the expressions are only added to
 pub exprs_keep : (nds : List Node) (k : ℕ) (es : List (Option Expr)) (j : ℕ) → j ≤ length es → expr_at (exprs_from k es nds) j ≡ expr_at es j
@@ -41,12 +41,12 @@ exprs_length (nd ∷ nds) k es =
 
 -- only the numbers of nodes unfold
 some_range : (es : List (Option Expr)) (j : ℕ) (e : Expr) → expr_at es j ≡ Some e → (1 ≤ j) × (j ≤ length es)
-some_range es zero e h = absurd (let z : ◌≡◌ {A = ℕ} 0 1 = cc in omega arith)
+some_range es zero e h = absurd (cc)
 some_range es (suc j) e h = (
   omega arith,
   ⊎_elim
       (λ (l : j < length es). omega arith)
-      (λ (l : length es ≤ j). let q = get_or_past es j None l in absurd (let z : ◌≡◌ {A = ℕ} 0 1 = cc in omega arith))
+      (λ (l : length es ≤ j). let q = get_or_past es j None l in absurd (cc))
       (cases_lt j (length es)),
 )
 

@@ -1,4 +1,5 @@
 -- The tensor model language: expressions, their types, and what a table of nodes unfolds to.
+--   meant        the operation that one of the code stands for
 --   Expr         expressions: variables, outer products, element by element operations, transpositions, contractions
 --   Typed        the typing judgement, with one rule for each form; the shapes of the variables are given
 --   depth        1 for a variable, otherwise one more than the deepest operand
@@ -13,9 +14,11 @@ use Rattle.indices.specs.Places.{pick, at1, has}
 use Rattle.refusals.specs.Refusals.{done}
 use Rattle.shapes.specs.Shapes.{declared}
 use Rattle.sheets.specs.declared.form.Form.{Form}
-use Rattle.sheets.specs.declared.form.Form.TheVariants.{Variable, Outer, Sum, Difference, Product, Quotient, Transposition, Contraction}
+use Rattle.sheets.specs.declared.form.Form.TheVariants.{Variable, Outer, Pointwise, Transposition, Contraction}
 use Rattle.sheets.specs.declared.node.Node.{Node}
 use Rattle.sheets.specs.declared.node.Statement.{Statement}
+use Rattle.sheets.specs.declared.term.Operation as code
+use Rattle.sheets.specs.declared.term.Operation.TheVariants.{Plus, Minus, Times, Over}
 use Rattle.sheets.specs.Forms.{form_of, tidy}
 use Rattle.sheets.specs.Rules.{earlier, larger}
 
@@ -24,6 +27,13 @@ pub data Operation : Type 0 where
   minus : Operation
   times : Operation
   over : Operation
+
+-- the operation that one of the code stands for
+abbrev pub meant : code.Operation → Operation
+meant Plus = plus
+meant Minus = minus
+meant Times = times
+meant Over = over
 
 pub data Expr : Type 0 where
   variable : ℕ → Expr
@@ -69,10 +79,7 @@ of_two f (Some x) (Some y) = Some (f x y)
 abbrev pub formed : Form → Node → Option Expr → Option Expr → Option Expr
 formed Variable nd x y = Some (variable nd.a)
 formed Outer nd x y = of_two outer x y
-formed Sum nd x y = of_two (pointwise plus) x y
-formed Difference nd x y = of_two (pointwise minus) x y
-formed Product nd x y = of_two (pointwise times) x y
-formed Quotient nd x y = of_two (pointwise over) x y
+formed (Pointwise op) nd x y = of_two (pointwise (meant op)) x y
 formed Transposition nd x y = of_one (turned nd.m nd.n) x
 formed Contraction nd x y = of_one (contracted nd.m nd.n) x
 

@@ -1,10 +1,13 @@
 -- What each form's rule makes of its operands, and the questions about one node.
 --   Info          what is known of a node: its extents, depth and nesting
 --   info_of       that of a judgement
+--   info_in       that of a judged node; node_in, the node itself
 --   earlier       j is the number of a node before k
 --   present       question 14: the variable is declared, or each operand is an earlier node
+--   pointwise     what the rule of an operation, element by element, gives
 --   ruled         question 15: what the form's rule gives
 --   bounded       question 16: rank at most 8, depth at most 16, nesting at most 3
+--   variable_answer, operand_answer   14 to 16 of a variable; 14 of one operand
 --   node_answer   the four questions about node k, in order
 use Rattle.std.specs.Prelude.{ℕ, ◌+◌, Bool, cond, ◌&&◌, List, [], ◌∷◌, ◌++◌, length, Some, None, Option, ◌==◌, nat_le, nat_lt, slice_index_or}
 use Rattle.indices.specs.Dimensions.{same, two_of, exchanged, removed}
@@ -12,9 +15,12 @@ use Rattle.indices.specs.Places.{pick, at1, has}
 use Rattle.refusals.specs.Refusals.{Answer, done, refused}
 use Rattle.indices.specs.Coordinates.{coordinates}
 use Rattle.sheets.specs.declared.form.Form.{Form}
-use Rattle.sheets.specs.declared.form.Form.TheVariants.{Variable, Outer, Sum, Difference, Product, Quotient, Transposition, Contraction}
+use Rattle.sheets.specs.declared.form.Form.TheVariants.{Variable, Outer, Pointwise, Transposition, Contraction}
+use Rattle.sheets.specs.declared.passed.JudgedNode.{JudgedNode}
 use Rattle.sheets.specs.declared.judgement.Judgement.{Judgement}
 use Rattle.sheets.specs.declared.node.Node.{Node}
+use Rattle.sheets.specs.declared.term.Operation.{Operation}
+use Rattle.sheets.specs.declared.term.Operation.TheVariants.{Plus, Minus, Times, Over}
 use Rattle.sheets.specs.Forms.{form_of, tidy}
 
 pub record Info : Type 0 where
@@ -25,6 +31,12 @@ pub record Info : Type 0 where
 abbrev pub info_of : Judgement → Info
 info_of j = record { extents = coordinates j.extents; depth = j.depth; nesting = j.nesting }
 
+abbrev pub info_in : JudgedNode → Info
+info_in j = info_of j.judgement
+
+abbrev pub node_in : JudgedNode → Node
+node_in j = j.node
+
 abbrev pub scalar : List ℕ → Bool
 scalar es = length es == 0
 
@@ -34,10 +46,7 @@ earlier j k = nat_le 1 j && nat_lt j k
 abbrev pub present : List (List ℕ) → ℕ → Form → Node → Bool
 present ss k Variable nd = has ss nd.a
 present ss k Outer nd = earlier nd.a k && earlier nd.b k
-present ss k Sum nd = earlier nd.a k && earlier nd.b k
-present ss k Difference nd = earlier nd.a k && earlier nd.b k
-present ss k Product nd = earlier nd.a k && earlier nd.b k
-present ss k Quotient nd = earlier nd.a k && earlier nd.b k
+present ss k (Pointwise op) nd = earlier nd.a k && earlier nd.b k
 present ss k Transposition nd = earlier nd.a k
 present ss k Contraction nd = earlier nd.a k
 
@@ -58,6 +67,12 @@ scaled x y = cond (scalar x.extents) (Some (above x y y.extents)) (paired x y)
 abbrev pub divided : Info → Info → Option Info
 divided x y = cond (scalar y.extents) (Some (above x y x.extents)) (paired x y)
 
+abbrev pub pointwise : Operation → Info → Info → Option Info
+pointwise Plus x y = paired x y
+pointwise Minus x y = paired x y
+pointwise Times x y = scaled x y
+pointwise Over x y = divided x y
+
 abbrev pub turned : Info → ℕ → ℕ → Option Info
 turned x m n =
     cond (two_of m n (length x.extents)) (Some (record { extents = exchanged m n x.extents; depth = x.depth + 1; nesting = x.nesting })) None
@@ -71,10 +86,7 @@ contracted x m n =
 abbrev pub ruled : List (List ℕ) → Form → Node → Info → Info → Option Info
 ruled ss Variable nd x y = Some (record { extents = pick ss nd.a; depth = 1; nesting = 0 })
 ruled ss Outer nd x y = Some (above x y (x.extents ++ y.extents))
-ruled ss Sum nd x y = paired x y
-ruled ss Difference nd x y = paired x y
-ruled ss Product nd x y = scaled x y
-ruled ss Quotient nd x y = divided x y
+ruled ss (Pointwise op) nd x y = pointwise op x y
 ruled ss Transposition nd x y = turned x nd.m nd.n
 ruled ss Contraction nd x y = contracted x nd.m nd.n
 
@@ -91,6 +103,13 @@ nothing = record { extents = []; depth = 0; nesting = 0 }
 -- what is known of node j, from 1
 abbrev pub info_at : List Info → ℕ → Info
 info_at is j = slice_index_or (nothing ∷ is) j nothing
+
+-- questions 14 to 16 about a variable; question 14 about one operand of the node after those that are known
+abbrev pub variable_answer : List (List ℕ) → ℕ → ℕ → Answer Info
+variable_answer ss k v = cond (has ss v) (bounded_answer k (Some (record { extents = pick ss v; depth = 1; nesting = 0 }))) (refused 14 k)
+
+abbrev pub operand_answer : List Info → ℕ → Answer Info
+operand_answer is j = cond (earlier j (length is + 1)) (done (info_at is j)) (refused 14 (length is + 1))
 
 abbrev pub form_answer : List (List ℕ) → ℕ → List Info → Node → Option Form → Answer Info
 form_answer ss k is nd None = refused 13 k

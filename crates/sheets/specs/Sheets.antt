@@ -10,7 +10,7 @@ use Rattle.shapes.specs.Shapes.{declared, shapes_of}
 use Rattle.sheets.specs.declared.checked.CheckedSheet.{CheckedSheet}
 use Rattle.sheets.specs.declared.node.Node.{Node}
 use Rattle.sheets.specs.declared.node.Statement.{Statement}
-use Rattle.sheets.specs.Rules.{Info, info_of}
+use Rattle.sheets.specs.Rules.{Info, info_in, node_in}
 use Rattle.sheets.specs.Verdict.{verdict}
 
 pub record Contents : Type 0 where
@@ -21,7 +21,7 @@ pub record Contents : Type 0 where
 
 abbrev pub contents : CheckedSheet → Contents
 contents s =
-    record { shapes = shapes_of s.table; nodes = take s.node_count s.nodes; statements = take s.statement_count s.statements; infos = map info_of (take s.node_count s.judged) }
+    record { shapes = shapes_of s.table; nodes = map node_in (take s.node_count s.nodes); statements = take s.statement_count s.statements; infos = map info_in (take s.node_count s.nodes) }
 
 abbrev pub judged_sheet : List Declaration → List Node → List Statement → Answer Contents
 judged_sheet ds ns sts = and_then (verdict ds ns sts) (λ is. and_then (declared ds) (λ ss. done (record { shapes = ss; nodes = ns; statements = sts; infos = is })))

@@ -4,7 +4,6 @@
 --   node_at          node k, from 1
 --   made_of          what a node of a form is made of
 --   term_of          what node k is made of, by its kind
---   meant            the language's operation that one of the code stands for
 --   Unfolds          the expression of node k is made of those of its operands, which are earlier nodes
 --   NodeMeans        the expression of node k has the type that was found, within bounds
 --   StatementMeans   a statement's variable is declared, and its node has the type of the variable
@@ -16,14 +15,12 @@ use Rattle.sheets.specs.declared.form.Form.{Form}
 use Rattle.sheets.specs.declared.form.Form.TheVariants as form
 use Rattle.sheets.specs.declared.node.Node.{Node}
 use Rattle.sheets.specs.declared.node.Statement.{Statement}
-use Rattle.sheets.specs.declared.term.Operation.{Operation}
-use Rattle.sheets.specs.declared.term.Operation.TheVariants.{Plus, Minus, Times, Over}
 use Rattle.sheets.specs.declared.term.Term.{Term}
 use Rattle.sheets.specs.declared.term.Term.TheVariants.{Variable, Outer, Pointwise, Turned, Contracted}
 use Rattle.sheets.specs.Forms.{form_of}
 use Rattle.sheets.specs.Rules.{earlier, info_at}
-use Rattle.sheets.specs.Language.{Expr, plus, minus, times, over, variable, outer, pointwise, turned, contracted, Typed, depth, nesting, expr_of, blank}
-use Rattle.sheets.specs.Language as language
+use Rattle.sheets.specs.Language.{Expr, variable, outer, pointwise, turned, contracted, Typed, depth, nesting, expr_of, blank}
+pub use Rattle.sheets.specs.Language.{meant}
 use Rattle.sheets.specs.Sheets.{Contents}
 
 -- a variable that there is not where the node does not unfold
@@ -47,10 +44,7 @@ node_at ns k = slice_index_or (no_node ∷ ns) k no_node
 abbrev pub made_of : Form → Node → Term
 made_of form.Variable nd = Variable nd.a
 made_of form.Outer nd = Outer nd.a nd.b
-made_of form.Sum nd = Pointwise Plus nd.a nd.b
-made_of form.Difference nd = Pointwise Minus nd.a nd.b
-made_of form.Product nd = Pointwise Times nd.a nd.b
-made_of form.Quotient nd = Pointwise Over nd.a nd.b
+made_of (form.Pointwise op) nd = Pointwise op nd.a nd.b
 made_of form.Transposition nd = Turned nd.a nd.m nd.n
 made_of form.Contraction nd = Contracted nd.a nd.m nd.n
 
@@ -60,12 +54,6 @@ term_as nd (Some f) = Some (made_of f nd)
 
 abbrev pub term_of : List Node → ℕ → Option Term
 term_of ns k = term_as (node_at ns k) (form_of (node_at ns k).kind)
-
-abbrev pub meant : Operation → language.Operation
-meant Plus = plus
-meant Minus = minus
-meant Times = times
-meant Over = over
 
 abbrev pub UnfoldsTo : Contents → ℕ → Term → Type 0
 UnfoldsTo c k (Variable v) = expression_of c.nodes k ≡ variable v

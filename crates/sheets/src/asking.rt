@@ -5,8 +5,8 @@ ghost use Rattle.sheets.specs.Sheets.{contents};
 ghost use Rattle.sheets.specs.Writers.{LastWriter, Writer, writer_answer};
 
 use super::checked::CheckedSheet;
-use super::node::{Node, Statement};
-use super::nodes::unknown;
+use super::node::Statement;
+use super::passed::JudgedNode;
 use refusals::refusal::Refusal;
 use shapes::table::Table;
 
@@ -18,19 +18,9 @@ impl CheckedSheet {
         CheckedSheet {
             table: Table::empty(),
             node_count: 0,
-            nodes: [Node {
-                kind: 0,
-                a: 0,
-                b: 0,
-                m: 0,
-                n: 0,
-            }; 256],
-            judged: [unknown(); 256],
+            nodes: [JudgedNode::default(); 256],
             statement_count: 0,
-            statements: [Statement {
-                variable: 0,
-                node: 0,
-            }; 64],
+            statements: [Statement::default(); 64],
         }
     }
 
@@ -39,7 +29,10 @@ impl CheckedSheet {
         ensures asked { answer (λ _. tt) result ≡ writer_answer (contents self.now) variable s }
         ensures found { LastWriter (contents self.now).statements variable s result }
     {
-        if self.table.shape(variable as usize).is_err() || s < 1 || s > self.statement_count + 1 {
+        if self.table.shape(usize::from(variable)).is_err()
+            || s < 1
+            || s > self.statement_count + 1
+        {
             return Err(Refusal::OutOfSheet);
         }
         Ok(last_before(&self.statements[..s - 1], variable))
@@ -50,11 +43,6 @@ impl CheckedSheet {
 fn last_before(statements: &[Statement], variable: u16) -> Option<usize>
     ensures { Writer statements.now variable (length statements.now + 1) result }
 {
-    let mut found = None;
-    for k in 0..statements.len() {
-        if statements[k].variable == variable {
-            found = Some(k + 1);
-        }
-    }
-    found
+    let last = statements.iter().rposition(|s| s.variable == variable)?;
+    Some(last + 1)
 }

@@ -1,35 +1,42 @@
 // The forms that a node may have.
 ghost use Rattle.std.specs.Prelude.{◌≡◌};
+ghost use Rattle.std.specs.Result.{result_ok};
 ghost use Rattle.sheets.specs.Forms.{form_of, tidy as tidy_of};
 
 use super::node::Node;
+use super::term::Operation;
 
 #[derive(Clone, Copy, PartialEq, Eq, Debug)]
 pub enum Form {
     Variable,
     Outer,
-    Sum,
-    Difference,
-    Product,
-    Quotient,
+    Pointwise(Operation),
     Transposition,
     Contraction,
 }
 
+// A number that is no kind of node.
+#[derive(Clone, Copy, PartialEq, Eq, Debug)]
+pub struct UnknownKind(pub u16);
+
 // The form of a kind, if there is one.
-pub(super) fn form_of(kind: u16) -> Option<Form>
-    ensures { result ≡ form_of kind }
-{
-    match kind {
-        1 => Some(Form::Variable),
-        2 => Some(Form::Outer),
-        3 => Some(Form::Sum),
-        4 => Some(Form::Difference),
-        5 => Some(Form::Product),
-        6 => Some(Form::Quotient),
-        7 => Some(Form::Transposition),
-        8 => Some(Form::Contraction),
-        _ => None,
+impl TryFrom<u16> for Form {
+    type Error = UnknownKind;
+
+    ghost try_from_gives = { λ kind form. result_ok form ≡ form_of kind };
+
+    fn try_from(kind: u16) -> Result<Form, UnknownKind> {
+        match kind {
+            1 => Ok(Form::Variable),
+            2 => Ok(Form::Outer),
+            3 => Ok(Form::Pointwise(Operation::Plus)),
+            4 => Ok(Form::Pointwise(Operation::Minus)),
+            5 => Ok(Form::Pointwise(Operation::Times)),
+            6 => Ok(Form::Pointwise(Operation::Over)),
+            7 => Ok(Form::Transposition),
+            8 => Ok(Form::Contraction),
+            _ => Err(UnknownKind(kind)),
+        }
     }
 }
 
@@ -39,8 +46,7 @@ pub(super) fn tidy(form: Form, node: Node) -> bool
 {
     match form {
         Form::Variable => node.b == 0 && node.m == 0 && node.n == 0,
-        Form::Outer | Form::Sum | Form::Difference | Form::Product | Form::Quotient => node.m == 0
-            && node.n == 0,
+        Form::Outer | Form::Pointwise(_) => node.m == 0 && node.n == 0,
         Form::Transposition | Form::Contraction => node.b == 0,
     }
 }

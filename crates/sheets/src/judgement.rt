@@ -13,3 +13,14 @@ pub struct Judgement {
     ghost low: { depth ≤ 16 },
     ghost flat: { nesting ≤ 3 },
 }
+
+// What fills a table behind its last node.
+impl Default for Judgement {
+    fn default() -> Judgement {
+        Judgement {
+            extents: Index::empty(),
+            depth: 0,
+            nesting: 0,
+        }
+    }
+}

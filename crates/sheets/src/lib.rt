@@ -9,6 +9,7 @@ mod form;
 mod judgement;
 pub mod node;
 mod nodes;
+mod passed;
 mod reading;
 mod rules;
 pub mod term;

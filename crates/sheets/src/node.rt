@@ -1,7 +1,7 @@
 // The rows of a sheet's tables, as they are handed in.
 
 // What the fields mean depends on the kind; those that a kind does not use are zero. Operands are earlier nodes, from 1.
-#[derive(Clone, Copy, PartialEq, Eq, Debug)]
+#[derive(Clone, Copy, PartialEq, Eq, Default, Debug)]
 pub struct Node {
     pub kind: u16,
     pub a: u16,
@@ -11,7 +11,7 @@ pub struct Node {
 }
 
 // A variable gets the value of a node.
-#[derive(Clone, Copy, PartialEq, Eq, Debug)]
+#[derive(Clone, Copy, PartialEq, Eq, Default, Debug)]
 pub struct Statement {
     pub variable: u16,
     pub node: u16,

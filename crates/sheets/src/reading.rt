@@ -1,17 +1,17 @@
 // What a checked sheet tells: what its nodes are made of, its statements and the shapes of its variables.
-ghost use Rattle.std.specs.Prelude.{◌≡◌, ◌&&◌, ◌∷◌, length, if◌then◌else◌, Some, None, nat_le, slice_index_or};
+ghost use Rattle.std.specs.Prelude.{◌≡◌, ◌&&◌, ◌∷◌, length, take, if◌then◌else◌, Some, None, nat_le, slice_index_or};
 ghost use Rattle.shapes.specs.Shapes.{shapes_of};
 ghost use Rattle.sheets.specs.Forms.{form_of};
 ghost use Rattle.sheets.specs.Language.{blank};
 ghost use Rattle.sheets.specs.Rules.{info_at};
 ghost use Rattle.sheets.specs.Sheets.{contents};
-ghost use Rattle.sheets.specs.Terms.{node_there, made_of, term_as, term_of, Told};
+ghost use Rattle.sheets.specs.Terms.{node_there, node_at, made_of, term_as, term_of, Told};
 
 use super::checked::CheckedSheet;
-use super::form::{Form, form_of};
+use super::form::Form;
 use super::node::{Node, Statement};
-use super::nodes::known;
-use super::term::{Operation, Term};
+use super::passed::{JudgedNode, Known};
+use super::term::Term;
 use shapes::table::Table;
 
 impl CheckedSheet {
@@ -20,19 +20,20 @@ impl CheckedSheet {
         ensures value { result ≡ (if node_there (contents self.now) k then term_of (contents self.now).nodes k else None) }
         ensures unfolds { Told (contents self.now) k result }
     {
-        let k = k as usize;
-        if k < 1 || k > self.node_count {
-            return None;
-        }
-        made_of(self.nodes[k - 1])
+        made_of(self.node(k)?)
     }
 
     // The rank of node k; 0 where there is no such node.
     pub fn rank(&self, k: u16) -> usize
         ensures { result ≡ length (info_at (contents self.now).infos k).extents }
     {
-        let judgement = known(&self.judged[..self.node_count], k);
-        judgement.extents.as_slice().len()
+        let known = Known {
+            table: &self.table,
+            nodes: self.nodes(),
+        };
+        known
+            .node(k)
+            .map_or(0, |judgement| judgement.extents.as_slice().len())
     }
 
     // How many statements there are.
@@ -46,10 +47,24 @@ impl CheckedSheet {
     pub fn statement(&self, s: usize) -> Option<Statement>
         ensures { result ≡ (if nat_le 1 s && nat_le s (length (contents self.now).statements) then Some (slice_index_or (blank ∷ (contents self.now).statements) s blank) else None) }
     {
-        if s < 1 || s > self.statement_count {
-            return None;
-        }
-        Some(self.statements[s - 1])
+        self.statements[..self.statement_count]
+            .get(s.checked_sub(1)?)
+            .copied()
+    }
+
+    // The nodes, with what is known of each.
+    fn nodes(&self) -> &[JudgedNode]
+        ensures { result.now ≡ take self.now.node_count self.now.nodes }
+    {
+        &self.nodes[..self.node_count]
+    }
+
+    // Node k, from 1, if there is one.
+    fn node(&self, k: u16) -> Option<Node>
+        ensures { result ≡ (if node_there (contents self.now) k then Some (node_at (contents self.now).nodes k) else None) }
+    {
+        let judged = self.nodes().get(usize::from(k).checked_sub(1)?)?;
+        Some(judged.node)
     }
 
     // The shapes of the variables.
@@ -64,10 +79,8 @@ impl CheckedSheet {
 fn made_of(node: Node) -> Option<Term>
     ensures { result ≡ term_as node (form_of node.kind) }
 {
-    match form_of(node.kind) {
-        Some(form) => Some(term_of(form, node)),
-        None => None,
-    }
+    let form = Form::try_from(node.kind).ok()?;
+    Some(term_of(form, node))
 }
 
 // What a node of this form is made of.
@@ -75,15 +88,11 @@ fn term_of(form: Form, node: Node) -> Term
     ensures { result ≡ made_of form node }
 {
     let Node { a, b, m, n, .. } = node;
-    let operation = match form {
-        Form::Variable => return Term::Variable { variable: a },
-        Form::Outer => return Term::Outer { a, b },
-        Form::Transposition => return Term::Turned { a, m, n },
-        Form::Contraction => return Term::Contracted { a, m, n },
-        Form::Sum => Operation::Plus,
-        Form::Difference => Operation::Minus,
-        Form::Product => Operation::Times,
-        Form::Quotient => Operation::Over,
-    };
-    Term::Pointwise { operation, a, b }
+    match form {
+        Form::Variable => Term::Variable { variable: a },
+        Form::Outer => Term::Outer { a, b },
+        Form::Pointwise(operation) => Term::Pointwise { operation, a, b },
+        Form::Transposition => Term::Turned { a, m, n },
+        Form::Contraction => Term::Contracted { a, m, n },
+    }
 }

@@ -2,9 +2,10 @@
 ghost use Rattle.std.specs.Prelude.{◌≡◌, ◌≤◌, ◌++◌, Some};
 ghost use Rattle.refusals.specs.Refusals.{answer};
 ghost use Rattle.indices.specs.Coordinates.{coordinates};
-ghost use Rattle.sheets.specs.Rules.{info_of, above, bounded_answer, paired as paired_of, scaled as scaled_of, divided as divided_of, turned as turned_of, contracted as contracted_of};
+ghost use Rattle.sheets.specs.Rules.{info_of, above, bounded_answer, pointwise as pointwise_of, turned as turned_of, contracted as contracted_of};
 
 use super::judgement::Judgement;
+use super::term::Operation;
 use indices::index::Index;
 use refusals::refusal::Refusal;
 
@@ -31,78 +32,55 @@ pub(crate) fn bounded(
 fn over_two(x: Judgement, y: Judgement, extents: Index, k: usize) -> Result<Judgement, Refusal>
     ensures { answer info_of result ≡ bounded_answer k (Some (above (info_of x) (info_of y) (coordinates extents))) }
 {
-    let deeper = if x.depth < y.depth { y.depth } else { x.depth };
-    let nesting = if x.nesting < y.nesting {
-        y.nesting
-    } else {
-        x.nesting
-    };
-    bounded(extents, deeper + 1, nesting, k)
+    bounded(
+        extents,
+        x.depth.max(y.depth) + 1,
+        x.nesting.max(y.nesting),
+        k,
+    )
 }
 
+// The extents of the first operand, and then those of the second.
 pub(crate) fn outer(x: Judgement, y: Judgement, k: usize) -> Result<Judgement, Refusal>
     ensures { answer info_of result ≡ bounded_answer k (Some (above (info_of x) (info_of y) (coordinates x.extents ++ coordinates y.extents))) }
 {
-    match x.extents.joined(y.extents) {
-        Some(extents) => over_two(x, y, extents, k),
-        None => Err(Refusal::TooDeep(k)),
-    }
-}
-
-// Element by element, of nodes of one type.
-pub(crate) fn paired(x: Judgement, y: Judgement, k: usize) -> Result<Judgement, Refusal>
-    ensures { answer info_of result ≡ bounded_answer k (paired_of (info_of x) (info_of y)) }
-{
-    if !x.extents.same(&y.extents) {
-        return Err(Refusal::NoType(k));
-    }
-    let extents = x.extents;
+    let extents = x.extents.joined(y.extents).ok_or(Refusal::TooDeep(k))?;
     over_two(x, y, extents, k)
 }
 
-// A product: the first operand may be a scalar.
-pub(crate) fn scaled(x: Judgement, y: Judgement, k: usize) -> Result<Judgement, Refusal>
-    ensures { answer info_of result ≡ bounded_answer k (scaled_of (info_of x) (info_of y)) }
+// Element by element, of nodes of one type; but a product's first operand and a quotient's second may be a scalar.
+pub(crate) fn pointwise(
+    operation: Operation,
+    x: Judgement,
+    y: Judgement,
+    k: usize,
+) -> Result<Judgement, Refusal>
+    ensures { answer info_of result ≡ bounded_answer k (pointwise_of operation (info_of x) (info_of y)) }
 {
-    if x.extents.as_slice().is_empty() {
-        let extents = y.extents;
-        return over_two(x, y, extents, k);
-    }
-    paired(x, y, k)
-}
-
-// A quotient: the second operand may be a scalar.
-pub(crate) fn divided(x: Judgement, y: Judgement, k: usize) -> Result<Judgement, Refusal>
-    ensures { answer info_of result ≡ bounded_answer k (divided_of (info_of x) (info_of y)) }
-{
-    if y.extents.as_slice().is_empty() {
-        let extents = x.extents;
-        return over_two(x, y, extents, k);
-    }
-    paired(x, y, k)
+    let extents = match operation {
+        Operation::Times if x.extents.as_slice().is_empty() => y.extents,
+        Operation::Over if y.extents.as_slice().is_empty() => x.extents,
+        _ if x.extents.same(&y.extents) => x.extents,
+        _ => return Err(Refusal::NoType(k)),
+    };
+    over_two(x, y, extents, k)
 }
 
 // Dimensions m and n exchanged.
 pub(crate) fn turned(x: Judgement, m: usize, n: usize, k: usize) -> Result<Judgement, Refusal>
     ensures { answer info_of result ≡ bounded_answer k (turned_of (info_of x) m n) }
 {
-    match x.extents.exchanged(m, n) {
-        Some(extents) => bounded(extents, x.depth + 1, x.nesting, k),
-        None => Err(Refusal::NoType(k)),
-    }
+    let extents = x.extents.exchanged(m, n).ok_or(Refusal::NoType(k))?;
+    bounded(extents, x.depth + 1, x.nesting, k)
 }
 
 // Dimensions m and n contracted, which have one extent.
 pub(crate) fn contracted(x: Judgement, m: usize, n: usize, k: usize) -> Result<Judgement, Refusal>
     ensures { answer info_of result ≡ bounded_answer k (contracted_of (info_of x) m n) }
 {
-    match x.extents.without(m, n) {
-        Some(extents) => {
-            if x.extents.entry(m) != x.extents.entry(n) {
-                return Err(Refusal::NoType(k));
-            }
-            bounded(extents, x.depth + 1, x.nesting + 1, k)
-        }
-        None => Err(Refusal::NoType(k)),
+    let extents = x.extents.without(m, n).ok_or(Refusal::NoType(k))?;
+    if x.extents.entry(m) != x.extents.entry(n) {
+        return Err(Refusal::NoType(k));
     }
+    bounded(extents, x.depth + 1, x.nesting + 1, k)
 }

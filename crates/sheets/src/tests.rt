@@ -27,9 +27,7 @@ fn variable(a: u16) -> Node {
     Node {
         kind: 1,
         a,
-        b: 0,
-        m: 0,
-        n: 0,
+        ..Node::default()
     }
 }
 
@@ -38,8 +36,7 @@ fn pair(kind: u16, a: u16, b: u16) -> Node {
         kind,
         a,
         b,
-        m: 0,
-        n: 0,
+        ..Node::default()
     }
 }
 
@@ -47,9 +44,9 @@ fn over(kind: u16, a: u16, m: u16, n: u16) -> Node {
     Node {
         kind,
         a,
-        b: 0,
         m,
         n,
+        ..Node::default()
     }
 }
 

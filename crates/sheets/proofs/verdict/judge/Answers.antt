@@ -1,14 +1,15 @@
 use Rattle.std.proofs.Common.{◌≡◌, ℕ, true, false, List, sym, refl, ap, ◌∙◌}
 use Rattle.std.proofs.lemmas.Bool.{false≢true}
+use Rattle.std.proofs.lemmas.Result.{err_from_is_err_and}
 use Rattle.shapes.proofs.Asked.{never_refused}
 use Rattle.shapes.specs.declared.declaration.Declaration.{Declaration}
-use Rattle.refusals.specs.Refusals.{done, refused, and_then, number_of, position_of}
+use Rattle.refusals.specs.Refusals.{done, refused, and_then}
 use Rattle.shapes.specs.Shapes.{declared}
 use Rattle.sheets.specs.declared.node.Node.{Node}
 use Rattle.sheets.specs.declared.node.Statement.{Statement}
 use Rattle.sheets.specs.Language.{Means, Meaningful}
 use Rattle.sheets.specs.Rules.{Info}
-use Rattle.sheets.specs.Sheets.{Contents, contents, judged_sheet, filled}
+use Rattle.sheets.specs.Sheets.{Contents, contents, judged_sheet}
 use Rattle.sheets.specs.Verdict.{verdict}
 use Rattle.sheets.proofs.Passing.{then_done, passes_means, meaning_passes}
 use Rattle.sheets.proofs.Typing.{one_type}
@@ -31,22 +32,10 @@ module _ (ds : List Declaration) (ns : List Node) (sts : List Statement) where
       never_refused n p (judged_sheet ds ns sts) (held w.0 m.shapes) e f in
       record { sound = λ h. absurd (false≢true h); complete = λ m. absurd (lost m); one_type = λ ss k x s t u a b. one_type ss x s t a b }
 
-pub returns-in-Ok : goal.returns-in-Ok
-returns-in-Ok c =
-    let ds = c.args.declared.now in let ns = c.args.nodes.now in let sts = c.args.statements.now in let e = c.in-Ok.ensures in
-    record {
-      answers = ap (λ a. and_then a (λ (_ : Contents). done tt)) e;
-      fills = ap (λ a. filled a (contents c.args.sheet.now)) e;
-      same = λ h. absurd (false≢true (sym h));
-      means = passing ds ns sts (contents c.in-Ok.checked) e;
-    }
+pub returns-clause-means : goal.returns-clause-means
+returns-clause-means c = passing c.args.declared.now c.args.nodes.now c.args.statements.now (contents c.in_ok-sheet.field-0) c.in_ok-sheet.ensures
 
-pub returns-in-Err : goal.returns-in-Err
-returns-in-Err c =
-    let ds = c.args.declared.now in let ns = c.args.nodes.now in let sts = c.args.statements.now in let e = c.in-Err.ensures in
-    record {
-      answers = ap (λ a. and_then a (λ (_ : Contents). done tt)) e;
-      fills = ap (λ a. filled a (contents c.args.sheet.now)) e;
-      same = λ _. refl;
-      means = refusing ds ns sts (number_of c.in-Err.refusal) (position_of c.in-Err.refusal) e;
-    }
+pub returns-in_err-sheet-clause-means : goal.returns-in_err-sheet-clause-means
+returns-in_err-sheet-clause-means c =
+    let p = err_from_is_err_and c.from_residual.result c.from_residual.ensures.1 in
+    rw p.1 (refusing c.args.declared.now c.args.nodes.now c.args.statements.now _ _ c.in_err-sheet.ensures)

@@ -1,9 +1,0 @@
-use Rattle.std.proofs.Common.{◌≡◌, ◌+◌, map, drop}
-use Rattle.shapes.specs.Shapes.{shapes_of}
-use Rattle.sheets.specs.Rules.{info_of}
-use Rattle.sheets.specs.Verdict.{statements_from}
-use Rattle.sheets.proofs.verdict.judge_statements.Given as goal
-
-abbrev pub invariant-loop-k : goal.invariant-loop-k
-invariant-loop-k l =
-    statements_from (shapes_of l.table) (map info_of l.judged) (l.k + 1) (drop l.k l.statements) ≡ statements_from (shapes_of l.table) (map info_of l.judged) 1 l.statements
