@@ -9,7 +9,7 @@
 --   plain_value    its plain value, over any elements; contractions go up to the extents
 --   fits           store and sheet have the same shapes
 --   value_answer   the value of a node at an index, if store and sheet have the same shapes and the index is in reach
-use Rattle.std.specs.Prelude.{ℕ, Bool, true, false, cond, ◌&&◌, List, [], ◌∷◌, ◌++◌, length, take, drop, Some, None, Option}
+use Rattle.std.specs.Prelude.{ℕ, Bool, cond, ◌&&◌, List, [], ◌∷◌, ◌++◌, length, take, drop, Some, None, Option, is_ok}
 use Rattle.elements.specs.Algebra.{Algebra, total}
 use Rattle.indices.specs.Dimensions.{exchanged, removed, inserted}
 use Rattle.indices.specs.Places.{pick, at1, within}
@@ -59,13 +59,8 @@ node_value a m c k i = value a m.at m.reach (expression_of c.nodes k) i
 abbrev pub plain_value : {E : Type 0} → Algebra E → (ℕ → List ℕ → E) → Contents → ℕ → List ℕ → E
 plain_value a at c k i = value a at c.shapes (expression_of c.nodes k) i
 
--- nothing is found that differs
-abbrev pub agrees : Option ℕ → Bool
-agrees None = true
-agrees (Some k) = false
-
 abbrev pub fits : {E : Type 0} → Meaning E → Contents → Bool
-fits m c = agrees (difference c.shapes m.shapes)
+fits m c = is_ok (difference c.shapes m.shapes)
 
 abbrev pub value_answer : {E : Type 0} → Algebra E → Meaning E → Contents → ℕ → List ℕ → Option E
 value_answer a m c k i = cond (fits m c && (node_there c k && within (node_reach m c k) i)) (Some (node_value a m c k i)) None

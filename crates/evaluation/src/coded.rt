@@ -50,8 +50,7 @@ pub(crate) fn combined<K: Kind>(operation: Operation, left: u64, right: u64) -> 
 
 // The code of the element at a place in reach.
 pub(crate) fn fetch<K: Kind, S: Store<Item = K>>(s: &S, v: u16, at: Index) -> u64
-    requires kept { S.Store.keeps s.now }
-    requires reached { in_reach (S.Store.meaning s.now) v (coordinates at) ≡ true }
+    requires { in_reach (S.Store.meaning s.now) v (coordinates at) ≡ true }
     ensures { decoded K.Kind.algebra result ≡ (S.Store.meaning s.now).at v (coordinates at) }
 {
     match s.read(v as usize, at.as_slice()) {

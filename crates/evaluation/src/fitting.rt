@@ -8,13 +8,8 @@ use stores::matching::difference;
 use stores::store::Store;
 
 pub(crate) fn fits<S: Store>(s: &S, sheet: &CheckedSheet) -> bool
-    requires { S.Store.keeps s.now }
     ensures value { result ≡ fits_of (S.Store.meaning s.now) (contents sheet.now) }
     ensures same { result ≡ true → (contents sheet.now).shapes ≡ (S.Store.meaning s.now).shapes }
 {
-    let table = sheet.table();
-    match difference(&table, s) {
-        None => true,
-        Some(_) => false,
-    }
+    difference(&sheet.table(), s).is_ok()
 }

@@ -58,7 +58,6 @@ fn enter<K: Kind, S: Store<Item = K>>(
     at: Index,
     term: Term,
 ) -> Focus
-    requires kept { S.Store.keeps s.now }
     requires fits { (contents sheet.now).shapes ≡ (S.Store.meaning s.now).shapes }
     requires sound { Sound (setting K.Kind.algebra (S.Store.meaning s.now) (contents sheet.now)) (stack_of stack.old) (Focus.Down node at) }
     requires unfolds { UnfoldsTo (contents sheet.now) node term }
@@ -166,7 +165,6 @@ fn turn<K: Kind, S: Store<Item = K>>(
     stack: &mut Stack,
     focus: Focus,
 ) -> Turn
-    requires kept { S.Store.keeps s.now }
     requires fits { (contents sheet.now).shapes ≡ (S.Store.meaning s.now).shapes }
     requires sound { Sound (setting K.Kind.algebra (S.Store.meaning s.now) (contents sheet.now)) (stack_of stack.old) focus }
     ensures { Turned (setting K.Kind.algebra (S.Store.meaning s.now) (contents sheet.now)) (stack_of stack.old) focus (stack_of stack.new) result }
@@ -194,7 +192,6 @@ pub(crate) fn evaluate<K: Kind, S: Store<Item = K>>(
     node: u16,
     at: Index,
 ) -> K
-    requires kept { S.Store.keeps s.now }
     requires fits { (contents sheet.now).shapes ≡ (S.Store.meaning s.now).shapes }
     requires there { node_there (contents sheet.now) node ≡ true }
     requires reached { within (node_reach (S.Store.meaning s.now) (contents sheet.now) node) (coordinates at) ≡ true }

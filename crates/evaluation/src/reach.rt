@@ -85,7 +85,6 @@ pub(crate) fn rounded_of<K: Kind, S: Store<Item = K>>(
     node: u16,
     d: usize,
 ) -> u16
-    requires kept { S.Store.keeps s.now }
     requires fits { (contents sheet.now).shapes ≡ (S.Store.meaning s.now).shapes }
     requires there { node_there (contents sheet.now) node ≡ true }
     requires low { 1 ≤ d }
@@ -117,8 +116,7 @@ pub(crate) fn in_reach<K: Kind, S: Store<Item = K>>(
     k: u16,
     index: &[u16],
 ) -> bool
-    requires kept { S.Store.keeps s.now }
-    requires fits { (contents sheet.now).shapes ≡ (S.Store.meaning s.now).shapes }
+    requires { (contents sheet.now).shapes ≡ (S.Store.meaning s.now).shapes }
     ensures { result ≡ (node_there (contents sheet.now) k && within (node_reach (S.Store.meaning s.now) (contents sheet.now) k) index.now) }
 {
     let Some(_) = sheet.term(k) else {

@@ -19,7 +19,6 @@ use stores::store::Store;
 
 // The rounded extents of a variable, if there is one.
 pub fn reach_of<S: Store>(s: &S, v: usize) -> Option<Shape>
-    requires { S.Store.keeps s.now }
     ensures { option_map extents_of result ≡ (if has (S.Store.meaning s.now).shapes v then Some (pick (S.Store.meaning s.now).reach v) else None) }
 {
     let Ok(rank) = s.rank(v) else {
@@ -47,7 +46,6 @@ fn fill<K: Kind, S: Store<Item = K>>(
     k: usize,
     tray: &mut [K],
 )
-    requires kept { S.Store.keeps s.now }
     requires fits { (contents sheet.now).shapes ≡ (S.Store.meaning s.now).shapes }
     requires there { node_there (contents sheet.now) node ≡ true }
     requires reaches { node_reach (S.Store.meaning s.now) (contents sheet.now) node ≡ extents_of reach.now }
@@ -70,7 +68,6 @@ pub fn work_out<K: Kind, S: Store<Item = K>>(
     n: usize,
     tray: &mut [K],
 ) -> Option<usize>
-    requires { S.Store.keeps s.now }
     ensures answer { result ≡ tray_answer (S.Store.meaning s.now) (contents sheet.now) n (length tray.old) }
     ensures tray { tray.new ≡ tray_after K.Kind.algebra (S.Store.meaning s.now) (contents sheet.now) n tray.old }
 {

@@ -19,7 +19,6 @@ pub fn value<K: Kind, S: Store<Item = K>>(
     k: u16,
     index: &[u16],
 ) -> Option<K>
-    requires { S.Store.keeps s.now }
     ensures value { result ≡ value_answer K.Kind.algebra (S.Store.meaning s.now) (contents sheet.now) k index.now }
     ensures law { Law K.Kind.algebra (S.Store.meaning s.now) }
 {

@@ -47,7 +47,6 @@ fn print_padded<K: Kind + fmt::Display, S: Store<Item = K> + Drop>(
     layout: &str,
     below: S,
 ) -> anyhow::Result<()>
-    requires { S.Store.keeps below }
 {
     match layer::open(&tables(), 4, below) {
         Ok(mut padding) => print_figures(rt, figures, layout, &mut padding, 4),

@@ -30,8 +30,6 @@ pub(super) fn filled<K: Kind>(heap: Global, filler: K, count: u16) -> Result<Vec
 
 // Puts A and B into a store.
 fn put<K: Kind, S: Store<Item = K>>(s: &mut S, a: [K; 6], b: [K; 6]) -> Result<(), Refusal>
-    requires { S.Store.keeps s.old }
-    ensures { S.Store.keeps s.new }
 {
     s.write(1, &[1, 1], a[0])?;
     s.write(1, &[1, 2], a[1])?;
@@ -61,7 +59,6 @@ fn worked<K: Kind, S: Store<Item = K>>(
     n: usize,
     filler: K,
 ) -> anyhow::Result<(usize, Vec<K>)>
-    requires { S.Store.keeps s.now }
 {
     let mut tray = filled(heap, filler, 17)?;
     match work_out(s, &sheet()?, n, tray.as_mut_slice()) {
@@ -90,7 +87,6 @@ fn print_product<K: Kind + fmt::Display, S: Store<Item = K>>(
     s: &S,
     row: u16,
 ) -> anyhow::Result<()>
-    requires { S.Store.keeps s.now }
 {
     let kind = figures.kind;
     let row = row as usize;
@@ -118,7 +114,6 @@ fn print_trace<K: Kind + fmt::Display, S: Store<Item = K>>(
     layout: &str,
     s: &S,
 ) -> anyhow::Result<()>
-    requires { S.Store.keeps s.now }
 {
     let (_, tray) = worked(rt.alloc(), s, 2, figures.filler)?;
     let got = at(tray.as_slice(), 0)?;
@@ -133,7 +128,6 @@ pub(super) fn print_figures<K: Kind + fmt::Display, S: Store<Item = K>>(
     s: &mut S,
     row: u16,
 ) -> anyhow::Result<()>
-    requires { S.Store.keeps s.old }
 {
     put(s, figures.a, figures.b)?;
     print_product(rt, figures, layout, s, row)?;

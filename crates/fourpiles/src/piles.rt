@@ -71,8 +71,6 @@ pub(super) fn bytes<K: Kind>(
 
 // Puts the elements of A and B into a store.
 fn put<K: Kind, S: Store<Item = K>>(s: &mut S, entries: &[Entry<K>]) -> Result<(), Refusal>
-    requires { S.Store.keeps s.old }
-    ensures { S.Store.keeps s.new }
 {
     for k in 0..entries.len() {
         let entry = entries[k];
@@ -88,7 +86,6 @@ pub(super) fn print_pile<K: Kind + fmt::Display, S: Store<Item = K>>(
     entries: &[Entry<K>],
     s: &mut S,
 ) -> anyhow::Result<()>
-    requires { S.Store.keeps s.old }
 {
     put(s, entries)?;
     let Some(t) = product::plan(s, 1, 2, 3) else {
@@ -110,7 +107,6 @@ pub(super) fn print_padded<K: Kind + fmt::Display, S: Store<Item = K> + Drop>(
     entries: &[Entry<K>],
     below: S,
 ) -> anyhow::Result<()>
-    requires { S.Store.keeps below }
 {
     match layer::open(&TABLES, 4, below) {
         Ok(mut padding) => print_pile(rt, name, entries, &mut padding),

@@ -10,7 +10,6 @@ use stores::store::Store;
 
 // The plan to multiply tables a and b into c, if their shapes allow it.
 pub(super) fn plan<S: Store>(s: &S, a: usize, b: usize, c: usize) -> Option<Plan>
-    requires { S.Store.keeps s.now }
     ensures { IfSome result (λ t. Conforms (S.Store.meaning s.now).shapes t) }
 {
     if a == c || b == c {
@@ -34,7 +33,6 @@ pub(super) fn plan<S: Store>(s: &S, a: usize, b: usize, c: usize) -> Option<Plan
 
 // The extents of a table of rank 2.
 fn sides<S: Store>(s: &S, v: usize) -> Option<(u16, u16)>
-    requires { S.Store.keeps s.now }
     ensures { IfSome result (λ p. Sides (S.Store.meaning s.now).shapes v p.0 p.1) }
 {
     let Ok(rank) = s.rank(v) else {
@@ -54,7 +52,6 @@ fn sides<S: Store>(s: &S, v: usize) -> Option<(u16, u16)>
 
 // An entry of the product.
 fn entry<K: Kind, S: Store<Item = K>>(s: &S, t: Plan, i: u16, j: u16) -> Result<K, Refusal>
-    requires kept { S.Store.keeps s.now }
     requires conforms { Conforms (S.Store.meaning s.now).shapes t }
     requires place { in_rows t.rows t.columns i j }
     ensures { answered result ≡ done (entry_of K.Kind.algebra (S.Store.meaning s.now).at t i j) }
@@ -70,12 +67,10 @@ fn entry<K: Kind, S: Store<Item = K>>(s: &S, t: Plan, i: u16, j: u16) -> Result<
 
 // Row i of the product.
 fn row<K: Kind, S: Store<Item = K>>(s: &mut S, t: Plan, i: u16) -> Result<(), Refusal>
-    requires kept { S.Store.keeps s.old }
     requires conforms { Conforms (S.Store.meaning s.old).shapes t }
     requires low { 1 ≤ i }
     requires high { i ≤ t.rows }
     ensures answer { answered result ≡ done tt }
-    ensures kept { S.Store.keeps s.new }
     ensures filled { Filled K.Kind.algebra t (in_row i t.columns) (S.Store.meaning s.old) (S.Store.meaning s.new) }
 {
     for j in 0..t.columns {
@@ -87,10 +82,8 @@ fn row<K: Kind, S: Store<Item = K>>(s: &mut S, t: Plan, i: u16) -> Result<(), Re
 
 // The whole product.
 pub(super) fn multiply<K: Kind, S: Store<Item = K>>(s: &mut S, t: Plan) -> Result<(), Refusal>
-    requires kept { S.Store.keeps s.old }
-    requires conforms { Conforms (S.Store.meaning s.old).shapes t }
+    requires { Conforms (S.Store.meaning s.old).shapes t }
     ensures answer { answered result ≡ done tt }
-    ensures kept { S.Store.keeps s.new }
     ensures filled { Filled K.Kind.algebra t (in_rows t.rows t.columns) (S.Store.meaning s.old) (S.Store.meaning s.new) }
 {
     for i in 0..t.rows {

@@ -1,9 +1,9 @@
 -- A step: what is worked out, what is written, and what that leaves. Assumes nothing.
-use Rattle.std.proofs.Common.{◌≡◌, ℕ, zero, suc, ◌+◌, ◌<◌, ◌≤◌, Bool, true, false, cond, ◌&&◌, eqb, leb, List, [], ◌∷◌, ◌++◌, length, get_or, drop, None, sym, refl, ap, ◌∙◌, subst, arith}
+use Rattle.std.proofs.Common.{◌≡◌, ℕ, zero, suc, ◌+◌, ◌<◌, ◌≤◌, Bool, true, false, cond, ◌&&◌, eqb, leb, List, [], ◌∷◌, ◌++◌, length, get_or, drop, Ok, is_ok, sym, refl, ap, ◌∙◌, subst, arith}
 use Rattle.std.proofs.lemmas.Bool.{and_parts, and_from, le-leb, cond-true, cond-false, eqb-true, eq-eqb, both_ways}
 use Rattle.elements.specs.Algebra.{Algebra, Laws}
 use Rattle.evaluation.specs.Tray.{counted, statement_of, target, roomy, worked}
-use Rattle.evaluation.specs.Value.{agrees, fits, node_value}
+use Rattle.evaluation.specs.Value.{fits, node_value}
 use Rattle.evaluation.proofs.Padded.{padding_law}
 use Rattle.evaluation.proofs.Targets.{target_known, target_typed, target_reach}
 use Rattle.indices.specs.Dimensions.{same}
@@ -20,11 +20,11 @@ use Rattle.runs.specs.Plain.{State, step, works, step_answer, stepped, after}
 use Rattle.runs.specs.Writing.{SpareZero, Wrote}
 
 -- lists of shapes do not differ from themselves
-other_self : (k : ℕ) (ss : List (List ℕ)) → first_other k ss ss ≡ None
+other_self : (k : ℕ) (ss : List (List ℕ)) → first_other k ss ss ≡ Ok tt
 other_self k [] = refl
 other_self k (s ∷ ss) = cond-true (same s s) _ _ (same_self s) ∙ other_self (k + 1) ss
 
-difference_self : (ss : List (List ℕ)) → difference ss ss ≡ None
+difference_self : (ss : List (List ℕ)) → difference ss ss ≡ Ok tt
 difference_self ss = cond-true (eqb (length ss) (length ss)) _ _ (eq-eqb (length ss) (length ss) refl) ∙ other_self 1 ss
 
 counted_at : {X : Type 0} (f : ℕ → X) (m n k : ℕ) (xs : List X) (z : X) → k < n → get_or (counted f m n ++ xs) k z ≡ f (m + k)
@@ -79,7 +79,7 @@ module _ (c : Contents) (n size : ℕ) (long : 4096 ≤ size) where
       pub workable : (fits b c && roomy b c n size) ≡ true
       workable =
           let p = few_places in
-          and_from (fits b c) (roomy b c n size) (ap agrees (ap (λ ss. difference ss b.shapes) fit ∙ difference_self b.shapes))
+          and_from (fits b c) (roomy b c n size) (ap is_ok (ap (λ ss. difference ss b.shapes) fit ∙ difference_self b.shapes))
           (and_from (leb 1 n && leb n (length c.statements)) (leb (product (target b c n)) size) there (le-leb (product (target b c n)) size (omega arith)))
 
       -- what the tray holds for a place

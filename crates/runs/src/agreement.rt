@@ -17,9 +17,6 @@ use stores::store::Store;
 
 // One call. A step has as much of the tray as it asks for.
 fn perform<K: Kind, S: Store<Item = K>>(run: &mut Run<S>, call: Call<K>, tray: &mut [K]) -> Reply<K>
-    requires kept { S.Store.keeps run.old.store }
-    requires fits { (contents run.old.sheet).shapes ≡ (S.Store.meaning run.old.store).shapes }
-    ensures kept { S.Store.keeps run.new.store }
     ensures sheet { run.new.sheet ≡ run.old.sheet }
     ensures moves { Moves K.Kind.algebra (contents run.old.sheet) (call_of (length tray.old) call) (record { meaning = S.Store.meaning run.old.store; next = run.old.next }) (reply_of result) (record { meaning = S.Store.meaning run.new.store; next = run.new.next }) }
 {
@@ -64,12 +61,6 @@ fn pass<K: Kind, S: Store<Item = K>, T: Store<Item = K>>(
     entries: &mut [Entry<K>],
     tray: &mut [K],
 )
-    requires left_kept { S.Store.keeps one.old.store }
-    requires left_fits { (contents one.old.sheet).shapes ≡ (S.Store.meaning one.old.store).shapes }
-    requires right_kept { T.Store.keeps two.old.store }
-    requires right_fits { (contents two.old.sheet).shapes ≡ (T.Store.meaning two.old.store).shapes }
-    ensures left_kept { S.Store.keeps one.new.store }
-    ensures right_kept { T.Store.keeps two.new.store }
     ensures calls { calls_of (length tray.old) entries.new ≡ calls_of (length tray.old) entries.old }
     ensures left { Chain K.Kind.algebra (contents one.old.sheet) (record { meaning = S.Store.meaning one.old.store; next = one.old.next }) (calls_of (length tray.old) entries.old) (lefts_of entries.new) (record { meaning = S.Store.meaning one.new.store; next = one.new.next }) }
     ensures right { Chain K.Kind.algebra (contents two.old.sheet) (record { meaning = T.Store.meaning two.old.store; next = two.old.next }) (calls_of (length tray.old) entries.old) (rights_of entries.new) (record { meaning = T.Store.meaning two.new.store; next = two.new.next }) }
@@ -91,10 +82,8 @@ pub fn agree<K: Kind, S: Store<Item = K>, T: Store<Item = K>>(
     entries: &mut [Entry<K>],
     tray: &mut [K],
 ) -> Result<Pair<S, T>, Declined<Pair<S, T>>>
-    requires left { S.Store.keeps left }
-    requires right { T.Store.keeps right }
     ensures answer { opened (λ _. tt) result ≡ and_then (open_answer (contents sheet.now) (S.Store.meaning left).shapes) (λ _. open_answer (contents sheet.now) (T.Store.meaning right).shapes) }
-    ensures kept { MatchResult result (λ p. (S.Store.keeps p.left) × (T.Store.keeps p.right) × (calls_of (length tray.old) entries.new ≡ calls_of (length tray.old) entries.old)) (λ d. (d.value.left ≡ left) × (d.value.right ≡ right) × (entries.new ≡ entries.old)) }
+    ensures kept { MatchResult result (λ p. calls_of (length tray.old) entries.new ≡ calls_of (length tray.old) entries.old) (λ d. (d.value.left ≡ left) × (d.value.right ≡ right) × (entries.new ≡ entries.old)) }
     ensures agreement { IfOk result (λ p. Agreement K.Kind.algebra (contents sheet.now) (S.Store.meaning left) (T.Store.meaning right) (calls_of (length tray.old) entries.old) (lefts_of entries.new) (rights_of entries.new) (S.Store.meaning p.left) (T.Store.meaning p.right)) }
 {
     match open(sheet, left) {

@@ -21,18 +21,13 @@ pub fn fetch<K: Kind, S: Store<Item = K>>(
     v: usize,
     index: &[u16],
 ) -> Result<K, Refusal>
-    requires kept { S.Store.keeps run.now.store }
-    requires fits { (contents run.now.sheet).shapes ≡ (S.Store.meaning run.now.store).shapes }
     ensures { answered result ≡ fetch_answer (contents run.now.sheet) (record { at = (S.Store.meaning run.now.store).at; next = run.now.next }) v index.now }
 {
     let table = run.sheet.table();
     if !table.contains(v, index) {
         return Err(Refusal::OutOfShape);
     }
-    match run.store.read(v, index) {
-        Ok(x) => Ok(x),
-        Err(_) => Err(Refusal::OutOfShape),
-    }
+    run.store.read(v, index)
 }
 
 // Sets the element at a place in shape.
@@ -42,10 +37,7 @@ pub fn put<K: Kind, S: Store<Item = K>>(
     index: &[u16],
     x: K,
 ) -> Result<(), Refusal>
-    requires kept { S.Store.keeps run.old.store }
-    requires fits { (contents run.old.sheet).shapes ≡ (S.Store.meaning run.old.store).shapes }
     ensures answer { answered result ≡ put_answer (contents run.old.sheet) v index.now }
-    ensures kept { S.Store.keeps run.new.store }
     ensures sheet { run.new.sheet ≡ run.old.sheet }
     ensures moved { Moved (S.Store.meaning run.old.store) (after K.Kind.algebra (contents run.old.sheet) (S.Store.meaning run.old.store).reach (record { at = (S.Store.meaning run.old.store).at; next = run.old.next }) (put_call v index.now x)) (S.Store.meaning run.new.store) run.new.next }
     ensures same { is_ok result ≡ false → (run.new.store ≡ run.old.store) × (run.new.next ≡ run.old.next) }
@@ -54,18 +46,12 @@ pub fn put<K: Kind, S: Store<Item = K>>(
     if !table.contains(v, index) {
         return Err(Refusal::OutOfShape);
     }
-    match run.store.write(v, index, x) {
-        Ok(()) => Ok(()),
-        Err(_) => Err(Refusal::OutOfShape),
-    }
+    run.store.write(v, index, x)
 }
 
 // Works out the next statement at every place in reach of its variable into the tray, and only then writes all of them.
 pub fn step<K: Kind, S: Store<Item = K>>(run: &mut Run<S>, tray: &mut [K]) -> Result<usize, Refusal>
-    requires kept { S.Store.keeps run.old.store }
-    requires fits { (contents run.old.sheet).shapes ≡ (S.Store.meaning run.old.store).shapes }
     ensures answer { answered result ≡ step_answer (contents run.old.sheet) run.old.next (length tray.old) }
-    ensures kept { S.Store.keeps run.new.store }
     ensures sheet { run.new.sheet ≡ run.old.sheet }
     ensures moved { Moved (S.Store.meaning run.old.store) (after K.Kind.algebra (contents run.old.sheet) (S.Store.meaning run.old.store).reach (record { at = (S.Store.meaning run.old.store).at; next = run.old.next }) (step_call (length tray.old))) (S.Store.meaning run.new.store) run.new.next }
     ensures same { is_ok result ≡ false → (run.new.store ≡ run.old.store) × (run.new.next ≡ run.old.next) }

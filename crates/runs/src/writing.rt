@@ -15,13 +15,11 @@ pub(crate) fn write_all<K: Kind, S: Store<Item = K>>(
     reach: &Shape,
     tray: &[K],
 ) -> bool
-    requires kept { S.Store.keeps s.old }
     requires known { has (S.Store.meaning s.old).shapes v ≡ true }
     requires wide { pick (S.Store.meaning s.old).reach v ≡ extents_of reach.now }
     requires room { product (extents_of reach.now) ≤ length tray.now }
     requires spare { SpareZero K.Kind.algebra.zero (S.Store.meaning s.old) v tray.now }
     ensures all { result ≡ true }
-    ensures kept { S.Store.keeps s.new }
     ensures wrote { Wrote K.Kind.algebra.zero (S.Store.meaning s.old) v tray.now (S.Store.meaning s.new) }
 {
     for k in 0..reach.size() {

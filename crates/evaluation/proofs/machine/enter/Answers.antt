@@ -12,15 +12,15 @@ use Rattle.evaluation.proofs.machine.enter.Goals as goal
 pub fetch-requires : goal.fetch-requires
 fetch-requires g c =
     let t = setting g.K.Kind.algebra (g.S.Store.meaning c.args.s.now) (contents c.args.sheet.now) in
-    let w = works g.K.Kind.algebra (g.S.Store.meaning c.args.s.now) c.args.sheet.now g.met.K.Kind.lawful (g.met.S.Store.lawful c.args.s.now c.requires.kept) c.requires.fits in
+    let w = works g.K.Kind.algebra (g.S.Store.meaning c.args.s.now) c.args.sheet.now g.met.K.Kind.lawful (g.met.S.Store.lawful c.args.s.now) c.requires.fits in
     let fs = stack_of c.args.stack.now in
     let u = subst (UnfoldsTo (contents c.args.sheet.now) c.args.node) c.in-Variable.is c.requires.unfolds in
-    record { kept = c.requires.kept; reached = variable_reached t w fs c.args.node c.args.at c.requires.sound c.in-Variable.variable u }
+    variable_reached t w fs c.args.node c.args.at c.requires.sound c.in-Variable.variable u
 
 pub returns-in-Variable : goal.returns-in-Variable
 returns-in-Variable g c =
     let t = setting g.K.Kind.algebra (g.S.Store.meaning c.args.s.now) (contents c.args.sheet.now) in
-    let w = works g.K.Kind.algebra (g.S.Store.meaning c.args.s.now) c.args.sheet.now g.met.K.Kind.lawful (g.met.S.Store.lawful c.args.s.now c.requires.kept) c.requires.fits in
+    let w = works g.K.Kind.algebra (g.S.Store.meaning c.args.s.now) c.args.sheet.now g.met.K.Kind.lawful (g.met.S.Store.lawful c.args.s.now) c.requires.fits in
     let fs = stack_of c.args.stack.now in
     let u = subst (UnfoldsTo (contents c.args.sheet.now) c.args.node) c.in-Variable.is c.requires.unfolds in
     down_variable t w fs c.args.node c.args.at c.requires.sound c.in-Variable.variable c.fetch.result u c.fetch.ensures
@@ -28,7 +28,7 @@ returns-in-Variable g c =
 pub push-requires : goal.push-requires
 push-requires g c =
     let t = setting g.K.Kind.algebra (g.S.Store.meaning c.args.s.now) (contents c.args.sheet.now) in
-    let w = works g.K.Kind.algebra (g.S.Store.meaning c.args.s.now) c.args.sheet.now g.met.K.Kind.lawful (g.met.S.Store.lawful c.args.s.now c.requires.kept) c.requires.fits in
+    let w = works g.K.Kind.algebra (g.S.Store.meaning c.args.s.now) c.args.sheet.now g.met.K.Kind.lawful (g.met.S.Store.lawful c.args.s.now) c.requires.fits in
     let fs = stack_of c.args.stack.now in
     let u = subst (UnfoldsTo (contents c.args.sheet.now) c.args.node) c.in-Outer.is c.requires.unfolds in
     fork_room t w fs c.args.node c.args.at c.requires.sound _ _ _ _ _ (outer_forks t w fs c.args.node c.args.at c.requires.sound c.in-Outer.a c.in-Outer.b u)
@@ -36,7 +36,7 @@ push-requires g c =
 pub returns-in-Outer : goal.returns-in-Outer
 returns-in-Outer g c =
     let t = setting g.K.Kind.algebra (g.S.Store.meaning c.args.s.now) (contents c.args.sheet.now) in
-    let w = works g.K.Kind.algebra (g.S.Store.meaning c.args.s.now) c.args.sheet.now g.met.K.Kind.lawful (g.met.S.Store.lawful c.args.s.now c.requires.kept) c.requires.fits in
+    let w = works g.K.Kind.algebra (g.S.Store.meaning c.args.s.now) c.args.sheet.now g.met.K.Kind.lawful (g.met.S.Store.lawful c.args.s.now) c.requires.fits in
     let fs = stack_of c.args.stack.now in
     let u = subst (UnfoldsTo (contents c.args.sheet.now) c.args.node) c.in-Outer.is c.requires.unfolds in
     let f = outer_forks t w fs c.args.node c.args.at c.requires.sound c.in-Outer.a c.in-Outer.b u in
@@ -48,7 +48,7 @@ returns-in-Outer g c =
 pub push-requires-in-Pointwise : goal.push-requires-in-Pointwise
 push-requires-in-Pointwise g c =
     let t = setting g.K.Kind.algebra (g.S.Store.meaning c.args.s.now) (contents c.args.sheet.now) in
-    let w = works g.K.Kind.algebra (g.S.Store.meaning c.args.s.now) c.args.sheet.now g.met.K.Kind.lawful (g.met.S.Store.lawful c.args.s.now c.requires.kept) c.requires.fits in
+    let w = works g.K.Kind.algebra (g.S.Store.meaning c.args.s.now) c.args.sheet.now g.met.K.Kind.lawful (g.met.S.Store.lawful c.args.s.now) c.requires.fits in
     let fs = stack_of c.args.stack.now in
     let u = subst (UnfoldsTo (contents c.args.sheet.now) c.args.node) c.in-Pointwise.is c.requires.unfolds in
     fork_room t w fs c.args.node c.args.at c.requires.sound _ _ _ _ _ (pointwise_forks t w fs c.args.node c.args.at c.requires.sound c.in-Pointwise.operation c.in-Pointwise.a c.in-Pointwise.b u)
@@ -56,7 +56,7 @@ push-requires-in-Pointwise g c =
 pub returns-in-Pointwise : goal.returns-in-Pointwise
 returns-in-Pointwise g c =
     let t = setting g.K.Kind.algebra (g.S.Store.meaning c.args.s.now) (contents c.args.sheet.now) in
-    let w = works g.K.Kind.algebra (g.S.Store.meaning c.args.s.now) c.args.sheet.now g.met.K.Kind.lawful (g.met.S.Store.lawful c.args.s.now c.requires.kept) c.requires.fits in
+    let w = works g.K.Kind.algebra (g.S.Store.meaning c.args.s.now) c.args.sheet.now g.met.K.Kind.lawful (g.met.S.Store.lawful c.args.s.now) c.requires.fits in
     let fs = stack_of c.args.stack.now in
     let u = subst (UnfoldsTo (contents c.args.sheet.now) c.args.node) c.in-Pointwise.is c.requires.unfolds in
     let a = c.in-Pointwise.a in let b = c.in-Pointwise.b in
@@ -70,7 +70,7 @@ returns-in-Pointwise g c =
 pub exchange-requires : goal.exchange-requires
 exchange-requires g c =
     let t = setting g.K.Kind.algebra (g.S.Store.meaning c.args.s.now) (contents c.args.sheet.now) in
-    let w = works g.K.Kind.algebra (g.S.Store.meaning c.args.s.now) c.args.sheet.now g.met.K.Kind.lawful (g.met.S.Store.lawful c.args.s.now c.requires.kept) c.requires.fits in
+    let w = works g.K.Kind.algebra (g.S.Store.meaning c.args.s.now) c.args.sheet.now g.met.K.Kind.lawful (g.met.S.Store.lawful c.args.s.now) c.requires.fits in
     let fs = stack_of c.args.stack.now in
     let u = subst (UnfoldsTo (contents c.args.sheet.now) c.args.node) c.in-Turned.is c.requires.unfolds in
     turned_fits t w fs c.args.node c.args.at c.requires.sound c.in-Turned.a c.in-Turned.m c.in-Turned.n u
@@ -78,7 +78,7 @@ exchange-requires g c =
 pub returns-in-Turned : goal.returns-in-Turned
 returns-in-Turned g c =
     let t = setting g.K.Kind.algebra (g.S.Store.meaning c.args.s.now) (contents c.args.sheet.now) in
-    let w = works g.K.Kind.algebra (g.S.Store.meaning c.args.s.now) c.args.sheet.now g.met.K.Kind.lawful (g.met.S.Store.lawful c.args.s.now c.requires.kept) c.requires.fits in
+    let w = works g.K.Kind.algebra (g.S.Store.meaning c.args.s.now) c.args.sheet.now g.met.K.Kind.lawful (g.met.S.Store.lawful c.args.s.now) c.requires.fits in
     let fs = stack_of c.args.stack.now in
     let u = subst (UnfoldsTo (contents c.args.sheet.now) c.args.node) c.in-Turned.is c.requires.unfolds in
     down_turned t w fs c.args.node c.args.at c.requires.sound c.in-Turned.a c.in-Turned.m c.in-Turned.n u c.exchange.result c.exchange.ensures
@@ -86,12 +86,11 @@ returns-in-Turned g c =
 pub rounded_of-limit-requires : goal.rounded_of-limit-requires
 rounded_of-limit-requires g c =
     let t = setting g.K.Kind.algebra (g.S.Store.meaning c.args.s.now) (contents c.args.sheet.now) in
-    let w = works g.K.Kind.algebra (g.S.Store.meaning c.args.s.now) c.args.sheet.now g.met.K.Kind.lawful (g.met.S.Store.lawful c.args.s.now c.requires.kept) c.requires.fits in
+    let w = works g.K.Kind.algebra (g.S.Store.meaning c.args.s.now) c.args.sheet.now g.met.K.Kind.lawful (g.met.S.Store.lawful c.args.s.now) c.requires.fits in
     let fs = stack_of c.args.stack.now in
     let u = subst (UnfoldsTo (contents c.args.sheet.now) c.args.node) c.in-Contracted.is c.requires.unfolds in
     let d = sum_dimension t w fs c.args.node c.args.at c.requires.sound c.in-Contracted.a c.in-Contracted.m c.in-Contracted.n u in
     record {
-      kept = c.requires.kept;
       fits = c.requires.fits;
       there = sum_there t w fs c.args.node c.args.at c.requires.sound c.in-Contracted.a c.in-Contracted.m c.in-Contracted.n u;
       low = d.0;
@@ -101,7 +100,7 @@ rounded_of-limit-requires g c =
 pub extend-first-requires : goal.extend-first-requires
 extend-first-requires g c =
     let t = setting g.K.Kind.algebra (g.S.Store.meaning c.args.s.now) (contents c.args.sheet.now) in
-    let w = works g.K.Kind.algebra (g.S.Store.meaning c.args.s.now) c.args.sheet.now g.met.K.Kind.lawful (g.met.S.Store.lawful c.args.s.now c.requires.kept) c.requires.fits in
+    let w = works g.K.Kind.algebra (g.S.Store.meaning c.args.s.now) c.args.sheet.now g.met.K.Kind.lawful (g.met.S.Store.lawful c.args.s.now) c.requires.fits in
     let fs = stack_of c.args.stack.now in
     let u = subst (UnfoldsTo (contents c.args.sheet.now) c.args.node) c.in-Contracted.is c.requires.unfolds in
     sum_extendable t w fs c.args.node c.args.at c.requires.sound c.in-Contracted.a c.in-Contracted.m c.in-Contracted.n u
@@ -109,7 +108,7 @@ extend-first-requires g c =
 pub push-requires-in-Contracted : goal.push-requires-in-Contracted
 push-requires-in-Contracted g c =
     let t = setting g.K.Kind.algebra (g.S.Store.meaning c.args.s.now) (contents c.args.sheet.now) in
-    let w = works g.K.Kind.algebra (g.S.Store.meaning c.args.s.now) c.args.sheet.now g.met.K.Kind.lawful (g.met.S.Store.lawful c.args.s.now c.requires.kept) c.requires.fits in
+    let w = works g.K.Kind.algebra (g.S.Store.meaning c.args.s.now) c.args.sheet.now g.met.K.Kind.lawful (g.met.S.Store.lawful c.args.s.now) c.requires.fits in
     let fs = stack_of c.args.stack.now in
     let u = subst (UnfoldsTo (contents c.args.sheet.now) c.args.node) c.in-Contracted.is c.requires.unfolds in
     sum_room t w fs c.args.node c.args.at c.requires.sound c.in-Contracted.a c.in-Contracted.m c.in-Contracted.n u
@@ -117,7 +116,7 @@ push-requires-in-Contracted g c =
 pub returns-in-Contracted : goal.returns-in-Contracted
 returns-in-Contracted g c =
     let t = setting g.K.Kind.algebra (g.S.Store.meaning c.args.s.now) (contents c.args.sheet.now) in
-    let w = works g.K.Kind.algebra (g.S.Store.meaning c.args.s.now) c.args.sheet.now g.met.K.Kind.lawful (g.met.S.Store.lawful c.args.s.now c.requires.kept) c.requires.fits in
+    let w = works g.K.Kind.algebra (g.S.Store.meaning c.args.s.now) c.args.sheet.now g.met.K.Kind.lawful (g.met.S.Store.lawful c.args.s.now) c.requires.fits in
     let fs = stack_of c.args.stack.now in
     let u = subst (UnfoldsTo (contents c.args.sheet.now) c.args.node) c.in-Contracted.is c.requires.unfolds in
     down_sum t w fs c.args.node c.args.at c.requires.sound c.in-Contracted.a c.in-Contracted.m c.in-Contracted.n u _ _ c.extend-first.result _

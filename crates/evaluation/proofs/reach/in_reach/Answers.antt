@@ -15,17 +15,16 @@ returns-then-index-rank g c =
     let b = g.S.Store.meaning c.args.s.now in let sheet = contents c.args.sheet.now in
     let es = node_reach b sheet c.args.k in let cs = c.args.index.now in
     let t = c.in-Some.ensures.unfolds.0 in
-    let n = ranked b (g.met.S.Store.lawful c.args.s.now c.requires.kept) sheet (judged c.args.sheet.now) c.requires.fits c.args.k t in
+    let n = ranked b (g.met.S.Store.lawful c.args.s.now) sheet (judged c.args.sheet.now) c.requires c.args.k t in
     sym (and_right (node_there sheet c.args.k) (within es cs) (within_uneven es cs (λ e. c.if-index-rank.true (sym e ∙ sym n ∙ sym c.rank.ensures))))
 
 pub rounded_of-limit-requires : goal.rounded_of-limit-requires
 rounded_of-limit-requires g c =
     let b = g.S.Store.meaning c.args.s.now in let sheet = contents c.args.sheet.now in
     let t = c.in-Some.ensures.unfolds.0 in
-    let n = ranked b (g.met.S.Store.lawful c.args.s.now c.requires.kept) sheet (judged c.args.sheet.now) c.requires.fits c.args.k t in
+    let n = ranked b (g.met.S.Store.lawful c.args.s.now) sheet (judged c.args.sheet.now) c.requires c.args.k t in
     record {
-      kept = c.requires.kept;
-      fits = c.requires.fits;
+      fits = c.requires;
       there = t;
       low = omega arith;
       high = omega (arith, n, c.rank.ensures, c.if-index-rank.false, c.loop-d-test.true);
@@ -35,7 +34,7 @@ pub returns-then-index-d-lt1 : goal.returns-then-index-d-lt1
 returns-then-index-d-lt1 g c =
     let b = g.S.Store.meaning c.args.s.now in let sheet = contents c.args.sheet.now in
     let es = node_reach b sheet c.args.k in let cs = c.args.index.now in let d = c.loop-d.d in
-    let n = ranked b (g.met.S.Store.lawful c.args.s.now c.requires.kept) sheet (judged c.args.sheet.now) c.requires.fits c.args.k c.in-Some.ensures.unfolds.0 in
+    let n = ranked b (g.met.S.Store.lawful c.args.s.now) sheet (judged c.args.sheet.now) c.requires c.args.k c.in-Some.ensures.unfolds.0 in
     let l : d < length es = omega (arith, n, c.rank.ensures, c.if-index-rank.false, c.loop-d-test.true) in
     sym (and_right (node_there sheet c.args.k) (within es cs) (sym c.loop-d.invariant ∙ elim c.then-index-d-lt1.branch [
       | then-index-d-lt1-via-then-index-d-lt1 w ↦ below_first es cs d l c.loop-d-test.true w.if-index-d-lt1.true
@@ -46,7 +45,7 @@ pub loop-d-preserved : goal.loop-d-preserved
 loop-d-preserved g c =
     let b = g.S.Store.meaning c.args.s.now in let sheet = contents c.args.sheet.now in
     let es = node_reach b sheet c.args.k in let cs = c.args.index.now in let d = c.loop-d.d in
-    let n = ranked b (g.met.S.Store.lawful c.args.s.now c.requires.kept) sheet (judged c.args.sheet.now) c.requires.fits c.args.k c.in-Some.ensures.unfolds.0 in
+    let n = ranked b (g.met.S.Store.lawful c.args.s.now) sheet (judged c.args.sheet.now) c.requires c.args.k c.in-Some.ensures.unfolds.0 in
     let l : d < length es = omega (arith, n, c.rank.ensures, c.if-index-rank.false, c.loop-d-test.true) in
     up_to_limit es cs d l c.loop-d-test.true c.if-index-d-lt1.false (subst (λ x. get_or cs d 0 ≤ x) c.rounded_of-limit.ensures c.if-index-d.false) ∙ c.loop-d.invariant
 
@@ -55,6 +54,6 @@ returns g c =
     let b = g.S.Store.meaning c.args.s.now in let sheet = contents c.args.sheet.now in
     let es = node_reach b sheet c.args.k in let cs = c.args.index.now in let d = c.loop-d.d in
     let t = c.in-Some.ensures.unfolds.0 in
-    let n = ranked b (g.met.S.Store.lawful c.args.s.now c.requires.kept) sheet (judged c.args.sheet.now) c.requires.fits c.args.k t in
+    let n = ranked b (g.met.S.Store.lawful c.args.s.now) sheet (judged c.args.sheet.now) c.requires c.args.k t in
     let l : length es ≤ d = omega (arith, n, c.rank.ensures, c.if-index-rank.false, c.loop-d-test.false) in
     sym (and_from (node_there sheet c.args.k) (within es cs) t (sym c.loop-d.invariant ∙ all_within es cs d l c.loop-d-test.false))

@@ -8,7 +8,7 @@ use Rattle.evaluation.proofs.reach.rounded_of.Goals as goal
 pub trace-requires : goal.trace-requires
 trace-requires g c =
     let b = g.S.Store.meaning c.args.s.now in let sheet = contents c.args.sheet.now in let j = judged c.args.sheet.now in
-    let r = ranked b (g.met.S.Store.lawful c.args.s.now c.requires.kept) sheet j c.requires.fits in
+    let r = ranked b (g.met.S.Store.lawful c.args.s.now) sheet j c.requires.fits in
     record {
       there = c.loop-variable.invariant.there;
       small = follow_small b.reach sheet r c.args.node c.args.d c.loop-variable.k c.loop-variable.e j c.loop-variable.invariant;
@@ -17,7 +17,7 @@ trace-requires g c =
 pub returns-in-Ok : goal.returns-in-Ok
 returns-in-Ok g c =
     let b = g.S.Store.meaning c.args.s.now in let sheet = contents c.args.sheet.now in
-    let law = g.met.S.Store.lawful c.args.s.now c.requires.kept in
+    let law = g.met.S.Store.lawful c.args.s.now in
     let r = ranked b law sheet (judged c.args.sheet.now) c.requires.fits in
     done_same _ _ _ c.in-Ok.ensures
     (follow_end b.reach sheet r c.args.node c.args.d c.loop-variable.k c.loop-variable.e c.in-Variable.variable c.in-Variable.d
@@ -26,7 +26,7 @@ returns-in-Ok g c =
 pub returns-in-Err : goal.returns-in-Err
 returns-in-Err g c =
     let b = g.S.Store.meaning c.args.s.now in let sheet = contents c.args.sheet.now in
-    let law = g.met.S.Store.lawful c.args.s.now c.requires.kept in
+    let law = g.met.S.Store.lawful c.args.s.now in
     let r = ranked b law sheet (judged c.args.sheet.now) c.requires.fits in
     never_refused _ _ _ _ c.in-Err.ensures
     (follow_end b.reach sheet r c.args.node c.args.d c.loop-variable.k c.loop-variable.e c.in-Variable.variable c.in-Variable.d
@@ -35,5 +35,5 @@ returns-in-Err g c =
 pub loop-variable-preserved : goal.loop-variable-preserved
 loop-variable-preserved g c =
     let b = g.S.Store.meaning c.args.s.now in let sheet = contents c.args.sheet.now in
-    let r = ranked b (g.met.S.Store.lawful c.args.s.now c.requires.kept) sheet (judged c.args.sheet.now) c.requires.fits in
+    let r = ranked b (g.met.S.Store.lawful c.args.s.now) sheet (judged c.args.sheet.now) c.requires.fits in
     follow_down b.reach sheet r c.args.node c.args.d c.loop-variable.k c.loop-variable.e c.in-Operand.node c.in-Operand.d c.loop-variable.invariant c.in-Operand.ensures

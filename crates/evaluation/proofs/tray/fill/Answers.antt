@@ -13,7 +13,6 @@ evaluate-x-requires g c =
     let e : coordinates c.in-Some.at ≡ unplace wide k = (some_since (ltb k (product wide)) (coordinates c.in-Some.at) (unplace wide k) c.in-Some.ensures).1 in
     let w = within_unplace wide k (each_solid wide (proper_parts wide c.args.reach.now.sound).extents) c.requires.place in
     record {
-      kept = c.requires.kept;
       fits = c.requires.fits;
       there = c.requires.there;
       reached = ap (λ es. within es (coordinates c.in-Some.at)) c.requires.reaches ∙ ap (within wide) e ∙ w;

@@ -14,7 +14,7 @@ loop-d-init g c = (refl, refl, zeros_drop (0 ∷ 0 ∷ 0 ∷ 0 ∷ []) (length (
 pub returns-in_default-rounded : goal.returns-in_default-rounded
 returns-in_default-rounded g c =
     let b = g.S.Store.meaning c.args.s.now in let v = c.args.v in let rs = pick b.reach v in let d = c.loop-d.d in
-    let law = g.met.S.Store.lawful c.args.s.now c.requires in
+    let law = g.met.S.Store.lawful c.args.s.now in
     let k = (done_since (has b.shapes v) c.in-Ok.rank (length (pick b.shapes v)) 1 0 c.in-Ok.ensures).0 in
     let n = rank_told b law v c.in-Ok.rank k c.in-Ok.ensures in
     never_refused _ _ _ _ c.in_default-rounded.ensures (extent_next b.reach v d (reach_known b law v k) (omega (arith, n, c.loop-d-test.true)))
@@ -22,7 +22,7 @@ returns-in_default-rounded g c =
 pub bounds-extents-d : goal.bounds-extents-d
 bounds-extents-d g c =
     let b = g.S.Store.meaning c.args.s.now in let v = c.args.v in let rs = pick b.reach v in let d = c.loop-d.d in
-    let law = g.met.S.Store.lawful c.args.s.now c.requires in
+    let law = g.met.S.Store.lawful c.args.s.now in
     let k = (done_since (has b.shapes v) c.in-Ok.rank (length (pick b.shapes v)) 1 0 c.in-Ok.ensures).0 in
     let n = rank_told b law v c.in-Ok.rank k c.in-Ok.ensures in
     omega (arith, n, c.loop-d-test.true, reach_rank b law v k)
@@ -30,7 +30,7 @@ bounds-extents-d g c =
 pub offset_bounds-extents-d : goal.offset_bounds-extents-d
 offset_bounds-extents-d g c =
     let b = g.S.Store.meaning c.args.s.now in let v = c.args.v in let rs = pick b.reach v in let d = c.loop-d.d in
-    let law = g.met.S.Store.lawful c.args.s.now c.requires in
+    let law = g.met.S.Store.lawful c.args.s.now in
     let k = (done_since (has b.shapes v) c.in-Ok.rank (length (pick b.shapes v)) 1 0 c.in-Ok.ensures).0 in
     let n = rank_told b law v c.in-Ok.rank k c.in-Ok.ensures in
     omega (arith, n, c.loop-d-test.true, reach_rank b law v k)
@@ -38,7 +38,7 @@ offset_bounds-extents-d g c =
 pub overflow_cast-rank : goal.overflow_cast-rank
 overflow_cast-rank g c =
     let b = g.S.Store.meaning c.args.s.now in let v = c.args.v in let rs = pick b.reach v in let d = c.loop-d.d in
-    let law = g.met.S.Store.lawful c.args.s.now c.requires in
+    let law = g.met.S.Store.lawful c.args.s.now in
     let k = (done_since (has b.shapes v) c.in-Ok.rank (length (pick b.shapes v)) 1 0 c.in-Ok.ensures).0 in
     let n = rank_told b law v c.in-Ok.rank k c.in-Ok.ensures in
     omega (arith, n, reach_rank b law v k)
@@ -46,7 +46,7 @@ overflow_cast-rank g c =
 pub loop-d-preserved : goal.loop-d-preserved
 loop-d-preserved g c =
     let b = g.S.Store.meaning c.args.s.now in let v = c.args.v in let rs = pick b.reach v in let d = c.loop-d.d in
-    let law = g.met.S.Store.lawful c.args.s.now c.requires in
+    let law = g.met.S.Store.lawful c.args.s.now in
     let k = (done_since (has b.shapes v) c.in-Ok.rank (length (pick b.shapes v)) 1 0 c.in-Ok.ensures).0 in
     let n = rank_told b law v c.in-Ok.rank k c.in-Ok.ensures in
     let out = c.loop-d.extents in let r = c.in-Ok-rounded.extent in
@@ -61,7 +61,7 @@ loop-d-preserved g c =
 pub returns : goal.returns
 returns g c =
     let b = g.S.Store.meaning c.args.s.now in let v = c.args.v in let rs = pick b.reach v in let d = c.loop-d.d in
-    let law = g.met.S.Store.lawful c.args.s.now c.requires in
+    let law = g.met.S.Store.lawful c.args.s.now in
     let k = (done_since (has b.shapes v) c.in-Ok.rank (length (pick b.shapes v)) 1 0 c.in-Ok.ensures).0 in
     let n = rank_told b law v c.in-Ok.rank k c.in-Ok.ensures in
     let out = c.loop-d.extents in

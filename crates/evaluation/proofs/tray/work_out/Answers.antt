@@ -16,13 +16,12 @@ use Rattle.evaluation.proofs.tray.work_out.Goals as goal
 pub fill-requires : goal.fill-requires
 fill-requires g c =
     let b = g.S.Store.meaning c.args.s.now in let d = contents c.args.sheet.now in let n = c.args.n in
-    let law = g.met.S.Store.lawful c.args.s.now c.requires in let fit = c.if-not-fits.ensures.same refl in
+    let law = g.met.S.Store.lawful c.args.s.now in let fit = c.if-not-fits.ensures.same refl in
     let p = some_since (leb 1 n && leb n (length d.statements)) c.in-Some.statement (statement_of d n) c.in-Some.ensures in
     let st : c.in-Some.statement ≡ statement_of d n = p.1 in let all = judged c.args.sheet.now in
     let v = c.in-Some.statement.variable in
     let wide : extents_of c.in-Some-reach_of.reach ≡ target b d n = (some_since (has b.shapes v) (extents_of c.in-Some-reach_of.reach) (pick b.reach v) c.in-Some-reach_of.ensures).1 ∙ ap (λ t. pick b.reach t.variable) st in
     record {
-      kept = c.requires;
       fits = fit;
       there = ap (λ t. node_there d t.node) st ∙ target_there b law d all fit n p.0;
       reaches = ap (λ t. node_reach b d t.node) st ∙ target_reach b law d all fit n p.0 ∙ sym wide;
@@ -36,7 +35,7 @@ loop-k-preserved g c = filled_more _ c.loop-k.k c.args.tray.now c.loop-k.tray _ 
 pub returns : goal.returns
 returns g c =
     let b = g.S.Store.meaning c.args.s.now in let d = contents c.args.sheet.now in let n = c.args.n in
-    let law = g.met.S.Store.lawful c.args.s.now c.requires in let fit = c.if-not-fits.ensures.same refl in
+    let law = g.met.S.Store.lawful c.args.s.now in let fit = c.if-not-fits.ensures.same refl in
     let p = some_since (leb 1 n && leb n (length d.statements)) c.in-Some.statement (statement_of d n) c.in-Some.ensures in
     let st : c.in-Some.statement ≡ statement_of d n = p.1 in let all = judged c.args.sheet.now in
     let v = c.in-Some.statement.variable in
@@ -58,7 +57,7 @@ returns g c =
 pub returns-in_default-reach_of : goal.returns-in_default-reach_of
 returns-in_default-reach_of g c =
     let b = g.S.Store.meaning c.args.s.now in let d = contents c.args.sheet.now in let n = c.args.n in
-    let law = g.met.S.Store.lawful c.args.s.now c.requires in let fit = c.if-not-fits.ensures.same refl in
+    let law = g.met.S.Store.lawful c.args.s.now in let fit = c.if-not-fits.ensures.same refl in
     let p = some_since (leb 1 n && leb n (length d.statements)) c.in-Some.statement (statement_of d n) c.in-Some.ensures in
     let st : c.in-Some.statement ≡ statement_of d n = p.1 in let all = judged c.args.sheet.now in
     let v = c.in-Some.statement.variable in

@@ -18,16 +18,16 @@ use Rattle.evaluation.proofs.value.value.Goals as goal
 pub returns-then-not-fits : goal.returns-then-not-fits
 returns-then-not-fits g c =
     let b = g.S.Store.meaning c.args.s.now in let d = contents c.args.sheet.now in let i = c.args.index.now in
-    let law = padding_law g.K.Kind.algebra g.met.K.Kind.lawful b (g.met.S.Store.lawful c.args.s.now c.requires) in
+    let law = padding_law g.K.Kind.algebra g.met.K.Kind.lawful b (g.met.S.Store.lawful c.args.s.now) in
     record { value = sym (first_fails (Some (node_value g.K.Kind.algebra b d c.args.k i)) None (fits b d) (node_there d c.args.k && within (node_reach b d c.args.k) i) c.if-not-fits.ensures.value); law = law }
 
 pub in_reach-requires : goal.in_reach-requires
-in_reach-requires g c = record { kept = c.requires; fits = c.if-not-fits.ensures.same refl }
+in_reach-requires g c = c.if-not-fits.ensures.same refl
 
 pub returns-then-not-in_reach : goal.returns-then-not-in_reach
 returns-then-not-in_reach g c =
     let b = g.S.Store.meaning c.args.s.now in let d = contents c.args.sheet.now in let i = c.args.index.now in
-    let law = padding_law g.K.Kind.algebra g.met.K.Kind.lawful b (g.met.S.Store.lawful c.args.s.now c.requires) in
+    let law = padding_law g.K.Kind.algebra g.met.K.Kind.lawful b (g.met.S.Store.lawful c.args.s.now) in
     record { value = sym (second_fails (Some (node_value g.K.Kind.algebra b d c.args.k i)) None (fits b d) (node_there d c.args.k && within (node_reach b d c.args.k) i) c.if-not-in_reach.ensures); law = law }
 
 pub evaluate-requires : goal.evaluate-requires
@@ -35,12 +35,12 @@ evaluate-requires g c =
     let b = g.S.Store.meaning c.args.s.now in let d = contents c.args.sheet.now in let i = c.args.index.now in
     let p = and_parts (node_there d c.args.k) (within (node_reach b d c.args.k) i) (sym c.if-not-in_reach.ensures) in
     let e = (some_since (leb (length i) 8) (coordinates c.in-Some.at) i c.in-Some.ensures).1 in
-    record { kept = c.requires; fits = c.if-not-fits.ensures.same refl; there = p.0; reached = ap (within (node_reach b d c.args.k)) e ∙ p.1 }
+    record { fits = c.if-not-fits.ensures.same refl; there = p.0; reached = ap (within (node_reach b d c.args.k)) e ∙ p.1 }
 
 pub returns-in-Some : goal.returns-in-Some
 returns-in-Some g c =
     let b = g.S.Store.meaning c.args.s.now in let d = contents c.args.sheet.now in let i = c.args.index.now in
-    let law = padding_law g.K.Kind.algebra g.met.K.Kind.lawful b (g.met.S.Store.lawful c.args.s.now c.requires) in
+    let law = padding_law g.K.Kind.algebra g.met.K.Kind.lawful b (g.met.S.Store.lawful c.args.s.now) in
     let e = (some_since (leb (length i) 8) (coordinates c.in-Some.at) i c.in-Some.ensures).1 in
     record {
       value = ap Some (c.evaluate.ensures ∙ ap (node_value g.K.Kind.algebra b d c.args.k) e) ∙ sym (both_pass (Some (node_value g.K.Kind.algebra b d c.args.k i)) None (fits b d) (node_there d c.args.k && within (node_reach b d c.args.k) i) c.if-not-fits.ensures.value c.if-not-in_reach.ensures);
@@ -50,7 +50,7 @@ returns-in-Some g c =
 pub returns-in-None : goal.returns-in-None
 returns-in-None g c =
     let b = g.S.Store.meaning c.args.s.now in let d = contents c.args.sheet.now in let i = c.args.index.now in
-    let w = works g.K.Kind.algebra b c.args.sheet.now g.met.K.Kind.lawful (g.met.S.Store.lawful c.args.s.now c.requires) (c.if-not-fits.ensures.same refl) in
+    let w = works g.K.Kind.algebra b c.args.sheet.now g.met.K.Kind.lawful (g.met.S.Store.lawful c.args.s.now) (c.if-not-fits.ensures.same refl) in
     let p = and_parts (node_there d c.args.k) (within (node_reach b d c.args.k) i) (sym c.if-not-in_reach.ensures) in
     let l = within_length (node_reach b d c.args.k) i p.1 in
     let r = rank_at (setting g.K.Kind.algebra b d) w c.args.k p.0 in

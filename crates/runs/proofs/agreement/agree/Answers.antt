@@ -1,4 +1,4 @@
-use Rattle.std.proofs.Common.{length, sym, ap, ◌∙◌, subst}
+use Rattle.std.proofs.Common.{length, sym, ap, ◌∙◌}
 use Rattle.refusals.specs.Refusals.{and_then}
 use Rattle.sheets.specs.Sheets.{contents}
 use Rattle.sheets.proofs.Judged.{judged}
@@ -8,17 +8,6 @@ use Rattle.runs.proofs.Chains.{agreement, begun}
 use Rattle.runs.proofs.Opened.{opened_fits}
 use Rattle.runs.proofs.agreement.agree.Goals as goal
 
-pub pass-requires : goal.pass-requires
-pass-requires g c =
-    let d = contents c.args.sheet.now in
-    let l = c.in-Ok.ensures in let r = c.in-Ok-open.ensures in
-    record {
-      left_kept = subst g.S.Store.keeps (sym l.begins.1) c.requires.left;
-      left_fits = ap (λ t. t.shapes) l.begins.0.sheet ∙ opened_fits d (g.S.Store.meaning c.args.left).shapes l.answer ∙ ap (λ t. (g.S.Store.meaning t).shapes) (sym l.begins.1);
-      right_kept = subst g.T.Store.keeps (sym r.begins.1) c.requires.right;
-      right_fits = ap (λ t. t.shapes) r.begins.0.sheet ∙ opened_fits d (g.T.Store.meaning c.args.right).shapes r.answer ∙ ap (λ t. (g.T.Store.meaning t).shapes) (sym r.begins.1);
-    }
-
 pub returns-in-Ok-open : goal.returns-in-Ok-open
 returns-in-Ok-open g c =
     let d = contents c.args.sheet.now in
@@ -27,9 +16,9 @@ returns-in-Ok-open g c =
     let ks = calls_of (length c.args.tray.now) c.args.entries.now in let ls = lefts_of c.pass.new.entries in let rs = rights_of c.pass.new.entries in
     record {
       answer = r.answer ∙ ap (λ t. and_then t (λ _. open_answer d (g.T.Store.meaning c.args.right).shapes)) l.answer;
-      kept = (subst g.S.Store.keeps (sym c.close-in-Ok-open.ensures) p.left_kept, subst g.T.Store.keeps (sym c.close-in-Ok-open-2.ensures) p.right_kept, p.calls);
+      kept = p.calls;
       agreement = agreement a g.met.K.Kind.lawful d (judged c.args.sheet.now) x y
-          (g.met.S.Store.lawful c.args.left c.requires.left) (g.met.T.Store.lawful c.args.right c.requires.right)
+          (g.met.S.Store.lawful c.args.left) (g.met.T.Store.lawful c.args.right)
           (opened_fits d x.shapes l.answer) (opened_fits d y.shapes r.answer) ks ls rs _ _ c.pass.new.one.next c.pass.new.two.next
           (begun a (contents c.in-Ok.first.run.sheet) d (g.S.Store.meaning c.in-Ok.first.run.store) x (g.S.Store.meaning c.pass.new.one.store) (g.S.Store.meaning c.close-in-Ok-open.result) c.in-Ok.first.run.next c.pass.new.one.next ks ls
           l.begins.0.sheet (ap g.S.Store.meaning l.begins.1) l.begins.0.first (ap g.S.Store.meaning (sym c.close-in-Ok-open.ensures)) p.left)

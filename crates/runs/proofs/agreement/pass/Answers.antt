@@ -8,7 +8,7 @@ use Rattle.runs.proofs.Chains.{chain_next, told_same, told_more, told_next}
 use Rattle.runs.proofs.agreement.pass.Goals as goal
 
 pub loop-k-init : goal.loop-k-init
-loop-k-init g c = (c.requires.left_kept, c.requires.right_kept, refl, refl, c.requires.left_fits, c.requires.right_fits, refl, end, end)
+loop-k-init g c = record { left_sheet = refl; right_sheet = refl; calls = refl; left = end; right = end }
 
 pub loop-k-preserved : goal.loop-k-preserved
 loop-k-preserved g c =
@@ -19,23 +19,20 @@ loop-k-preserved g c =
     let l = c.perform-left.ensures in let r = c.perform-right.ensures in
     let e : Entry g.row.K.Denot = record { call = x.call; left = c.perform-left.result; right = c.perform-right.result } in
     let calls : take (k + 1) (calls_of room c.args.entries.now) ≡ take k (calls_of room c.args.entries.now) ++ call_of room x.call ∷ [] =
-    ap (take (k + 1)) (sym inv.6) ∙ told_next (λ t. call_of room t.call) xs k x lt is ∙ ap (λ t. take k t ++ call_of room x.call ∷ []) inv.6 in
+    ap (take (k + 1)) (sym inv.calls) ∙ told_next (λ t. call_of room t.call) xs k x lt is ∙ ap (λ t. take k t ++ call_of room x.call ∷ []) inv.calls in
     let p : Point g.row.K.Denot = record { meaning = g.S.Store.meaning c.loop-k.one.store; next = c.loop-k.one.next } in let q : Point g.row.K.Denot = record { meaning = g.S.Store.meaning c.perform-left.new.run.store; next = c.perform-left.new.run.next } in
     let u : Point g.row.K.Denot = record { meaning = g.T.Store.meaning c.loop-k.two.store; next = c.loop-k.two.next } in let w : Point g.row.K.Denot = record { meaning = g.T.Store.meaning c.perform-right.new.run.store; next = c.perform-right.new.run.next } in
-    let lm = subst (λ t. Moves g.K.Kind.algebra (contents t) (call_of room x.call) p (reply_of c.perform-left.result) q) inv.2
+    let lm = subst (λ t. Moves g.K.Kind.algebra (contents t) (call_of room x.call) p (reply_of c.perform-left.result) q) inv.left_sheet
     (subst (λ t. Moves g.K.Kind.algebra (contents c.loop-k.one.sheet) (call_of t x.call) p (reply_of c.perform-left.result) q) c.loop-k.auto.tray l.moves) in
-    let rm = subst (λ t. Moves g.K.Kind.algebra (contents t) (call_of room x.call) u (reply_of c.perform-right.result) w) inv.3
-    (subst (λ t. Moves g.K.Kind.algebra (contents c.loop-k.two.sheet) (call_of t x.call) u (reply_of c.perform-right.result) w) (c.perform-left.auto.tray ∙ c.loop-k.auto.tray) r.moves) in (
-      l.kept,
-      r.kept,
-      l.sheet ∙ inv.2,
-      r.sheet ∙ inv.3,
-      ap (λ t. (contents t).shapes) l.sheet ∙ inv.4 ∙ sym l.moves.moved.shapes,
-      ap (λ t. (contents t).shapes) r.sheet ∙ inv.5 ∙ sym r.moves.moved.shapes,
-      told_same (λ t. call_of room t.call) xs ys k e x lt is refl c.enter.ensures ∙ inv.6,
-      chain_next inv.7 lm calls (told_more (λ t. reply_of t.left) xs ys k e lt c.enter.ensures),
-      chain_next inv.8 rm calls (told_more (λ t. reply_of t.right) xs ys k e lt c.enter.ensures),
-    )
+    let rm = subst (λ t. Moves g.K.Kind.algebra (contents t) (call_of room x.call) u (reply_of c.perform-right.result) w) inv.right_sheet
+    (subst (λ t. Moves g.K.Kind.algebra (contents c.loop-k.two.sheet) (call_of t x.call) u (reply_of c.perform-right.result) w) (c.perform-left.auto.tray ∙ c.loop-k.auto.tray) r.moves) in
+    record {
+      left_sheet = l.sheet ∙ inv.left_sheet;
+      right_sheet = r.sheet ∙ inv.right_sheet;
+      calls = told_same (λ t. call_of room t.call) xs ys k e x lt is refl c.enter.ensures ∙ inv.calls;
+      left = chain_next inv.left lm calls (told_more (λ t. reply_of t.left) xs ys k e lt c.enter.ensures);
+      right = chain_next inv.right rm calls (told_more (λ t. reply_of t.right) xs ys k e lt c.enter.ensures);
+    }
 
 pub returns : goal.returns
 returns g c =
@@ -46,9 +43,7 @@ returns g c =
     let lefts = take_all k (lefts_of xs) (omega (arith, length-map xs (λ t. reply_of t.left), c.loop-k.auto.entries, c.loop-k-test.false)) in
     let rights = take_all k (rights_of xs) (omega (arith, length-map xs (λ t. reply_of t.right), c.loop-k.auto.entries, c.loop-k-test.false)) in
     record {
-      left_kept = inv.0;
-      right_kept = inv.1;
-      calls = inv.6;
-      left = subst (λ t. Chain g.K.Kind.algebra (contents c.args.one.now.sheet) one t (lefts_of xs) left) calls (subst (λ t. Chain g.K.Kind.algebra (contents c.args.one.now.sheet) one (take k (calls_of room e0)) t left) lefts inv.7);
-      right = subst (λ t. Chain g.K.Kind.algebra (contents c.args.two.now.sheet) two t (rights_of xs) right) calls (subst (λ t. Chain g.K.Kind.algebra (contents c.args.two.now.sheet) two (take k (calls_of room e0)) t right) rights inv.8);
+      calls = inv.calls;
+      left = subst (λ t. Chain g.K.Kind.algebra (contents c.args.one.now.sheet) one t (lefts_of xs) left) calls (subst (λ t. Chain g.K.Kind.algebra (contents c.args.one.now.sheet) one (take k (calls_of room e0)) t left) lefts inv.left);
+      right = subst (λ t. Chain g.K.Kind.algebra (contents c.args.two.now.sheet) two t (rights_of xs) right) calls (subst (λ t. Chain g.K.Kind.algebra (contents c.args.two.now.sheet) two (take k (calls_of room e0)) t right) rights inv.right);
     }

@@ -1,34 +1,27 @@
-use Rattle.std.proofs.Common.{◌≡◌, true, ◌&&◌, sym, refl, ap, ◌∙◌}
-use Rattle.std.proofs.lemmas.Bool.{cond-true, true≢false}
+use Rattle.std.proofs.Common.{◌≡◌, true, ◌&&◌, sym, ap, ◌∙◌, subst}
+use Rattle.std.proofs.lemmas.Bool.{cond-true}
 use Rattle.indices.specs.Places.{pick, has, within}
 use Rattle.refusals.specs.Refusals.{done, refused}
-use Rattle.shapes.proofs.Asked.{never_refused}
 use Rattle.sheets.specs.Sheets.{contents}
-use Rattle.stores.specs.Meaning.{in_shape}
+use Rattle.stores.specs.Meaning.{Written}
+use Rattle.padding.proofs.Cleared.{ok_since}
 use Rattle.runs.specs.Plain.{in_sheet}
 use Rattle.runs.proofs.Taken.{takes, put_moved}
 use Rattle.runs.proofs.calls.put.Goals as goal
 
-pub returns-in-Ok : goal.returns-in-Ok
-returns-in-Ok g c =
-    let b = g.S.Store.meaning c.args.run.now.store in let d = contents c.args.run.now.sheet in
-    let v = c.args.v in let i = c.args.index.now in
-    let law = g.met.S.Store.lawful c.args.run.now.store c.requires.kept in
+pub returns-clause-answer : goal.returns-clause-answer
+returns-clause-answer g c =
+    let s = c.args.run.now in let d = contents s.sheet in let v = c.args.v in let i = c.args.index.now in
     let h : in_sheet d v i ≡ true = ap (λ ss. has ss v && within (pick ss v) i) (sym c.table-table.ensures) ∙ sym c.if-not-contains.ensures in
-    let k : in_shape b v i ≡ true = ap (λ ss. has ss v && within (pick ss v) i) (sym c.requires.fits) ∙ h in
-    record {
-      answer = sym (cond-true (in_sheet d v i) (done tt) (refused 20 0) h);
-      kept = c.in-Ok.ensures.kept;
-      sheet = refl;
-      moved = put_moved g.K.Kind.algebra d b.reach b (g.S.Store.meaning c.write.new.self) c.args.run.now.next v i c.args.x h c.in-Ok.ensures.written;
-      same = λ e. absurd (true≢false e);
-    }
+    let k = ap (λ ss. has ss v && within (pick ss v) i) (sym s.fits) ∙ h in
+    c.write.ensures.answer ∙ takes g.K.Kind.algebra (g.S.Store.meaning s.store) (g.met.S.Store.lawful s.store) v i k c.args.x
+    ∙ sym (cond-true (in_sheet d v i) (done tt) (refused 20 0) h)
 
-pub returns-in-Err : goal.returns-in-Err
-returns-in-Err g c =
-    let b = g.S.Store.meaning c.args.run.now.store in let d = contents c.args.run.now.sheet in
-    let v = c.args.v in let i = c.args.index.now in
-    let law = g.met.S.Store.lawful c.args.run.now.store c.requires.kept in
+pub returns-clause-moved : goal.returns-clause-moved
+returns-clause-moved g c =
+    let s = c.args.run.now in let d = contents s.sheet in let v = c.args.v in let i = c.args.index.now in let x = c.args.x in
+    let b = g.S.Store.meaning s.store in let o = g.S.Store.meaning c.write.new.self in
     let h : in_sheet d v i ≡ true = ap (λ ss. has ss v && within (pick ss v) i) (sym c.table-table.ensures) ∙ sym c.if-not-contains.ensures in
-    let k : in_shape b v i ≡ true = ap (λ ss. has ss v && within (pick ss v) i) (sym c.requires.fits) ∙ h in
-    never_refused _ _ _ _ c.in-Err.ensures.answer (takes g.K.Kind.algebra b law v i k c.args.x)
+    let k = ap (λ ss. has ss v && within (pick ss v) i) (sym s.fits) ∙ h in
+    let t = ok_since c.write.result (c.write.ensures.answer ∙ takes g.K.Kind.algebra b (g.met.S.Store.lawful s.store) v i k x) in
+    put_moved g.K.Kind.algebra d b.reach b o s.next v i x h (subst (λ r. Written r b v i x o) t c.write.ensures.written)

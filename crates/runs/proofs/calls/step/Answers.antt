@@ -16,13 +16,12 @@ pub returns-in_default : goal.returns-in_default
 returns-in_default g c =
     let a = g.K.Kind.algebra in let b = g.S.Store.meaning c.args.run.now.store in let d = contents c.args.run.now.sheet in
     let n = c.args.run.now.next in let size = length c.args.tray.now in
-    let law = g.met.S.Store.lawful c.args.run.now.store c.requires.kept in let all = judged c.args.run.now.sheet in
-    let laws = g.met.K.Kind.lawful in let fit = c.requires.fits in let long = c.if-tray-lt4096.false in
+    let law = g.met.S.Store.lawful c.args.run.now.store in let all = judged c.args.run.now.sheet in
+    let laws = g.met.K.Kind.lawful in let fit = c.args.run.now.fits in let long = c.if-tray-lt4096.false in
     let out = none_left d n size long (none_since (leb 1 n && leb n (length d.statements)) (statement_of d n) c.in_default.ensures) c.args.run.now.low in
     let no = no_work d n size long out in
     record {
       answer = answer_none d n size long out;
-      kept = c.requires.kept;
       sheet = refl;
       moved = idle a d b.reach b n size no;
       same = λ _. (refl, refl);
@@ -33,8 +32,8 @@ pub returns-in_default-reach_of : goal.returns-in_default-reach_of
 returns-in_default-reach_of g c =
     let a = g.K.Kind.algebra in let b = g.S.Store.meaning c.args.run.now.store in let d = contents c.args.run.now.sheet in
     let n = c.args.run.now.next in let size = length c.args.tray.now in
-    let law = g.met.S.Store.lawful c.args.run.now.store c.requires.kept in let all = judged c.args.run.now.sheet in
-    let laws = g.met.K.Kind.lawful in let fit = c.requires.fits in let long = c.if-tray-lt4096.false in
+    let law = g.met.S.Store.lawful c.args.run.now.store in let all = judged c.args.run.now.sheet in
+    let laws = g.met.K.Kind.lawful in let fit = c.args.run.now.fits in let long = c.if-tray-lt4096.false in
     let p = some_since (leb 1 n && leb n (length d.statements)) c.in-Some.statement (statement_of d n) c.in-Some.ensures in
     let st = p.1 in let there = p.0 in
     let v = c.in-Some.statement.variable in
@@ -45,8 +44,8 @@ pub returns-in_default-work_out : goal.returns-in_default-work_out
 returns-in_default-work_out g c =
     let a = g.K.Kind.algebra in let b = g.S.Store.meaning c.args.run.now.store in let d = contents c.args.run.now.sheet in
     let n = c.args.run.now.next in let size = length c.args.tray.now in
-    let law = g.met.S.Store.lawful c.args.run.now.store c.requires.kept in let all = judged c.args.run.now.sheet in
-    let laws = g.met.K.Kind.lawful in let fit = c.requires.fits in let long = c.if-tray-lt4096.false in
+    let law = g.met.S.Store.lawful c.args.run.now.store in let all = judged c.args.run.now.sheet in
+    let laws = g.met.K.Kind.lawful in let fit = c.args.run.now.fits in let long = c.if-tray-lt4096.false in
     let p = some_since (leb 1 n && leb n (length d.statements)) c.in-Some.statement (statement_of d n) c.in-Some.ensures in
     let st = p.1 in let there = p.0 in
     let w = workable d n size long there a laws b law all fit in
@@ -56,8 +55,8 @@ pub write_all-requires : goal.write_all-requires
 write_all-requires g c =
     let a = g.K.Kind.algebra in let b = g.S.Store.meaning c.args.run.now.store in let d = contents c.args.run.now.sheet in
     let n = c.args.run.now.next in let size = length c.args.tray.now in
-    let law = g.met.S.Store.lawful c.args.run.now.store c.requires.kept in let all = judged c.args.run.now.sheet in
-    let laws = g.met.K.Kind.lawful in let fit = c.requires.fits in let long = c.if-tray-lt4096.false in
+    let law = g.met.S.Store.lawful c.args.run.now.store in let all = judged c.args.run.now.sheet in
+    let laws = g.met.K.Kind.lawful in let fit = c.args.run.now.fits in let long = c.if-tray-lt4096.false in
     let p = some_since (leb 1 n && leb n (length d.statements)) c.in-Some.statement (statement_of d n) c.in-Some.ensures in
     let st = p.1 in let there = p.0 in
     let v = c.in-Some.statement.variable in
@@ -70,7 +69,6 @@ write_all-requires g c =
     let f = few_places d n size long there a laws b law all fit in
     let k : product (extents_of c.in-Some-reach_of.reach) ≡ product (target b d n) = ap product (wide ∙ ap (pick b.reach) q) in
     record {
-      kept = c.requires.kept;
       known = ap (has b.shapes) q ∙ variable_known d n size long there a laws b law all fit;
       wide = sym wide;
       room = omega (arith, k, f, long, c.work_out.auto.tray);
@@ -81,8 +79,8 @@ pub returns : goal.returns
 returns g c =
     let a = g.K.Kind.algebra in let b = g.S.Store.meaning c.args.run.now.store in let d = contents c.args.run.now.sheet in
     let n = c.args.run.now.next in let size = length c.args.tray.now in
-    let law = g.met.S.Store.lawful c.args.run.now.store c.requires.kept in let all = judged c.args.run.now.sheet in
-    let laws = g.met.K.Kind.lawful in let fit = c.requires.fits in let long = c.if-tray-lt4096.false in
+    let law = g.met.S.Store.lawful c.args.run.now.store in let all = judged c.args.run.now.sheet in
+    let laws = g.met.K.Kind.lawful in let fit = c.args.run.now.fits in let long = c.if-tray-lt4096.false in
     let p = some_since (leb 1 n && leb n (length d.statements)) c.in-Some.statement (statement_of d n) c.in-Some.ensures in
     let st = p.1 in let there = p.0 in
     let v = c.in-Some.statement.variable in
@@ -93,7 +91,6 @@ returns g c =
     c.in-Some-work_out.ensures.tray ∙ cond-true (fits b d && roomy b d n size) (worked a b d n ++ drop (product (target b d n)) c.args.tray.now) c.args.tray.now w in
     record {
       answer = answer_done d n size long there;
-      kept = c.if-not-write_all.ensures.kept;
       sheet = refl;
       moved = step_moved d n size long there a laws b law all fit xs c.args.tray.now e (g.S.Store.meaning c.write_all.new.s)
           (subst (λ u. Wrote a.zero b u xs (g.S.Store.meaning c.write_all.new.s)) q c.if-not-write_all.ensures.wrote);

@@ -8,7 +8,7 @@ use Rattle.runs.proofs.writing.write_all.Goals as goal
 
 pub loop-k-init : goal.loop-k-init
 loop-k-init g c =
-    (c.requires.kept, write_none g.K.Kind.algebra (extents_of c.args.reach.now) c.args.v c.args.tray.now (g.S.Store.meaning c.args.s.now))
+    write_none g.K.Kind.algebra (extents_of c.args.reach.now) c.args.v c.args.tray.now (g.S.Store.meaning c.args.s.now)
 
 pub returns-in-Err : goal.returns-in-Err
 returns-in-Err g c =
@@ -17,7 +17,7 @@ returns-in-Err g c =
     let s : List ℕ = c.as_slice.result.now in
     let e : s ≡ unplace wide k = c.as_slice.ensures ∙ (some_since (ltb k (product wide)) _ _ c.in-Some.ensures).1 in
     never_refused _ _ _ _ c.in-Err.ensures.answer
-    (write_takes g.K.Kind.algebra wide c.args.v c.args.tray.now (g.S.Store.meaning c.args.s.now) c.requires.wide k (g.S.Store.meaning c.loop-k.s) c.loop-k.invariant.1
+    (write_takes g.K.Kind.algebra wide c.args.v c.args.tray.now (g.S.Store.meaning c.args.s.now) c.requires.wide k (g.S.Store.meaning c.loop-k.s) c.loop-k.invariant
     (each_solid wide (proper_parts wide outer.sound).extents) lt c.requires.known c.requires.room s e c.index-tray-k.result c.index-tray-k.is c.requires.spare)
 
 pub loop-k-preserved : goal.loop-k-preserved
@@ -25,18 +25,15 @@ loop-k-preserved g c =
     let outer = c.args.reach.now in let wide = extents_of outer in let k = c.loop-k.k in
     let lt : k < product wide = omega (arith, c.size-k-end.ensures, c.loop-k-test.true) in
     let s : List ℕ = c.as_slice.result.now in
-    let e : s ≡ unplace wide k = c.as_slice.ensures ∙ (some_since (ltb k (product wide)) _ _ c.in-Some.ensures).1 in (
-      c.write.ensures.kept,
-      write_step g.K.Kind.algebra wide c.args.v c.args.tray.now (g.S.Store.meaning c.args.s.now) c.requires.wide k (g.S.Store.meaning c.loop-k.s) c.loop-k.invariant.1
-          (each_solid wide (proper_parts wide outer.sound).extents) lt c.requires.known c.requires.room s e c.index-tray-k.result c.index-tray-k.is (g.S.Store.meaning c.write.new.self) (is_ok c.write.result) (ap is_ok c.in-Ok.is)
-          c.write.ensures.written,
-    )
+    let e : s ≡ unplace wide k = c.as_slice.ensures ∙ (some_since (ltb k (product wide)) _ _ c.in-Some.ensures).1 in
+    write_step g.K.Kind.algebra wide c.args.v c.args.tray.now (g.S.Store.meaning c.args.s.now) c.requires.wide k (g.S.Store.meaning c.loop-k.s) c.loop-k.invariant
+    (each_solid wide (proper_parts wide outer.sound).extents) lt c.requires.known c.requires.room s e c.index-tray-k.result c.index-tray-k.is (g.S.Store.meaning c.write.new.self) (is_ok c.write.result) (ap is_ok c.in-Ok.is)
+    c.write.ensures.written
 
 pub returns : goal.returns
 returns g c =
     record {
       all = refl;
-      kept = c.loop-k.invariant.0;
       wrote = write_done g.K.Kind.algebra (extents_of c.args.reach.now) c.args.v c.args.tray.now (g.S.Store.meaning c.args.s.now) c.requires.wide c.loop-k.k
-          (g.S.Store.meaning c.loop-k.s) (omega (arith, c.size-k-end.ensures, c.loop-k-test.false)) c.loop-k.invariant.1;
+          (g.S.Store.meaning c.loop-k.s) (omega (arith, c.size-k-end.ensures, c.loop-k-test.false)) c.loop-k.invariant;
     }
