@@ -46,7 +46,6 @@ impl Known<'_> {
             .table
             .shape(usize::from(a))
             .map_err(|_| Refusal::BadOperand(k))?;
-        let extents = Index::of(shape.extents()).ok_or(Refusal::TooDeep(k))?;
-        rules::bounded(extents, 1, 0, k)
+        rules::bounded(Index::from(shape), 1, 0, k)
     }
 }

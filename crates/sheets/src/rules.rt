@@ -60,7 +60,7 @@ pub(crate) fn pointwise(
     let extents = match operation {
         Operation::Times if x.extents.as_slice().is_empty() => y.extents,
         Operation::Over if y.extents.as_slice().is_empty() => x.extents,
-        _ if x.extents.same(&y.extents) => x.extents,
+        _ if x.extents == y.extents => x.extents,
         _ => return Err(Refusal::NoType(k)),
     };
     over_two(x, y, extents, k)

@@ -38,7 +38,7 @@ fn judged_sheet(
 ) -> Result<CheckedSheet, Refusal>
     ensures { answer contents result ≡ judged_sheet declared.now nodes.now statements.now }
 {
-    let table = Table::of(declared)?;
+    let table = Table::try_from(declared)?;
     if nodes.len() > 256 || statements.len() > 64 {
         return Err(Refusal::TooManyRows);
     }
