@@ -46,8 +46,7 @@ fn print_padded<K: Kind + fmt::Display, S: Store<Item = K> + Drop>(
     figures: &Figures<K>,
     layout: &str,
     below: S,
-) -> anyhow::Result<()>
-{
+) -> anyhow::Result<()> {
     match layer::open(&tables(), 4, below) {
         Ok(mut padding) => print_figures(rt, figures, layout, &mut padding, 4),
         Err(declined) => Err(declined.refusal.into()),

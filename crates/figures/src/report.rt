@@ -29,8 +29,7 @@ pub(super) fn filled<K: Kind>(heap: Global, filler: K, count: u16) -> Result<Vec
 }
 
 // Puts A and B into a store.
-fn put<K: Kind, S: Store<Item = K>>(s: &mut S, a: [K; 6], b: [K; 6]) -> Result<(), Refusal>
-{
+fn put<K: Kind, S: Store<Item = K>>(s: &mut S, a: [K; 6], b: [K; 6]) -> Result<(), Refusal> {
     s.write(1, &[1, 1], a[0])?;
     s.write(1, &[1, 2], a[1])?;
     s.write(1, &[1, 3], a[2])?;
@@ -58,8 +57,7 @@ fn worked<K: Kind, S: Store<Item = K>>(
     s: &S,
     n: usize,
     filler: K,
-) -> anyhow::Result<(usize, Vec<K>)>
-{
+) -> anyhow::Result<(usize, Vec<K>)> {
     let mut tray = filled(heap, filler, 17)?;
     match work_out(s, &sheet()?, n, tray.as_mut_slice()) {
         Some(places) => Ok((places, tray)),
@@ -86,8 +84,7 @@ fn print_product<K: Kind + fmt::Display, S: Store<Item = K>>(
     layout: &str,
     s: &S,
     row: u16,
-) -> anyhow::Result<()>
-{
+) -> anyhow::Result<()> {
     let kind = figures.kind;
     let row = row as usize;
     let product = figures.product;
@@ -113,8 +110,7 @@ fn print_trace<K: Kind + fmt::Display, S: Store<Item = K>>(
     figures: &Figures<K>,
     layout: &str,
     s: &S,
-) -> anyhow::Result<()>
-{
+) -> anyhow::Result<()> {
     let (_, tray) = worked(rt.alloc(), s, 2, figures.filler)?;
     let got = at(tray.as_slice(), 0)?;
     print_row(rt, figures.kind, "d", layout, figures.trace, got)
@@ -127,8 +123,7 @@ pub(super) fn print_figures<K: Kind + fmt::Display, S: Store<Item = K>>(
     layout: &str,
     s: &mut S,
     row: u16,
-) -> anyhow::Result<()>
-{
+) -> anyhow::Result<()> {
     put(s, figures.a, figures.b)?;
     print_product(rt, figures, layout, s, row)?;
     print_trace(rt, figures, layout, s)

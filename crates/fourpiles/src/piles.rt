@@ -70,8 +70,7 @@ pub(super) fn bytes<K: Kind>(
 }
 
 // Puts the elements of A and B into a store.
-fn put<K: Kind, S: Store<Item = K>>(s: &mut S, entries: &[Entry<K>]) -> Result<(), Refusal>
-{
+fn put<K: Kind, S: Store<Item = K>>(s: &mut S, entries: &[Entry<K>]) -> Result<(), Refusal> {
     for k in 0..entries.len() {
         let entry = entries[k];
         s.write(entry.table, &entry.index, entry.element)?;
@@ -85,8 +84,7 @@ pub(super) fn print_pile<K: Kind + fmt::Display, S: Store<Item = K>>(
     name: &str,
     entries: &[Entry<K>],
     s: &mut S,
-) -> anyhow::Result<()>
-{
+) -> anyhow::Result<()> {
     put(s, entries)?;
     let Some(t) = product::plan(s, 1, 2, 3) else {
         return Err(anyhow!("the tables do not fit each other"));
@@ -106,8 +104,7 @@ pub(super) fn print_padded<K: Kind + fmt::Display, S: Store<Item = K> + Drop>(
     name: &str,
     entries: &[Entry<K>],
     below: S,
-) -> anyhow::Result<()>
-{
+) -> anyhow::Result<()> {
     match layer::open(&TABLES, 4, below) {
         Ok(mut padding) => print_pile(rt, name, entries, &mut padding),
         Err(declined) => Err(declined.refusal.into()),
