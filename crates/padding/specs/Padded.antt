@@ -1,16 +1,16 @@
 -- A padding over a store: a lawful meaning, read and written. Assumes nothing.
 use Rattle.std.specs.Prelude.{◌≡◌, ℕ, ◌≤◌, Bool, true, false, cond, ◌&&◌, ◌||◌, ◌⊎◌, List, [], ◌∷◌, length, Some, ◌≢◌, nat_le, refl}
 use Rattle.std.proofs.Common.{sym, ap, ◌∙◌, subst, inl, inr, ⊎_elim, arith}
-use Rattle.std.proofs.lemmas.Bool.{and_parts, eqb-true, eq-eqb, both_ways, false≢true, cases_Bool, cases_eq, or_left, or_right}
+use Rattle.std.proofs.lemmas.Bool.{and_parts, cond-true, cond-false, eqb-true, eq-eqb, both_ways, false≢true, cases_Bool, cases_eq, or_left, or_right, or_from}
 use Rattle.std.proofs.lemmas.List.{length-map}
 use Rattle.elements.specs.Algebra.{Algebra, Laws, is_zero}
 use Rattle.shapes.specs.declared.table.Table.{Table}
 use Rattle.indices.specs.Places.{within, pick, has, at1}
-use Rattle.refusals.specs.Refusals.{done, refused}
+use Rattle.refusals.specs.Refusals.{Answer, done, refused}
 use Rattle.shapes.specs.Shapes.{shapes_of}
 use Rattle.shapes.proofs.Numbering.{within_parts, within_step}
 use Rattle.shapes.proofs.Tables.{shapes_length, proper_pick, counted_parts}
-use Rattle.stores.specs.Meaning.{Meaning, Lawful, Covers, Written, dimension, write_answer, in_reach}
+use Rattle.stores.specs.Meaning.{Meaning, Lawful, Covers, Written, dimension, read_answer, write_answer, in_reach}
 use Rattle.padding.specs.Padding.{padded, Padded, Blank}
 use Rattle.padding.specs.Rounding.{round, rounded, all_rounded}
 use Rattle.padding.specs.Rounded.{round_least, within_rounded, pick_rounded, at1_rounded}
@@ -74,6 +74,17 @@ written_at b c v u i j x r w s = by (cases_Bool r) (cases_eq u v) (cases_index j
     by (inl o) (inr e) f = inr (w.others u j s (λ _ y _. e y))
     by (inr o) e f = inr (w.others u j s (λ y _ _. both_ways r o y))
 
+-- what a read's answer tells of its two questions
+read_since : {X : Type 0} (h w : Bool) (x y : X) → done y ≡ cond h (cond w (done x) (refused 2 0)) (refused 1 0) → (h ≡ true) × (w ≡ true)
+read_since true true x y e = (refl, refl)
+read_since true false x y e = absurd (let z : ◌≡◌ {A = ℕ} 0 1 = cc in omega arith)
+read_since false w x y e = absurd (let z : ◌≡◌ {A = ℕ} 0 1 = cc in omega arith)
+
+unread_since : {X Y : Type 0} (h w : Bool) (x : X) (u : Answer Y) (n p : ℕ) → ◌≡◌ {A = Answer X} (refused n p) (cond h (cond w (done x) (refused 2 0)) (refused 1 0)) → refused n p ≡ cond h (cond w u (refused 2 0)) (refused 1 0)
+unread_since true true x u n p e = absurd (let z : ◌≡◌ {A = ℕ} 0 1 = cc in omega arith)
+unread_since true false x u n p e = cc
+unread_since false w x u n p e = cc
+
 module _ {E : Type 0} (z : E) (m : ℕ) (ss : List (List ℕ)) (b : Meaning E) (ok : Padded z m ss b) where
   same_count : length b.shapes ≡ length ss
   same_count = ap length ok.shapes ∙ length-map ss (rounded m)
@@ -97,6 +108,10 @@ module _ {E : Type 0} (z : E) (m : ℕ) (ss : List (List ℕ)) (b : Meaning E) (
       let q = counted_parts (length (pick ss v)) d (and_parts (has ss v) (nat_le 1 d && nat_le d (length (pick ss v))) h).1 in
       ap (λ es. at1 es d) (wide_at v) ∙ at1_rounded m (pick ss v) d q.0 q.1
 
+  -- a read asks the same of the store below
+  pub pad_read : (v : ℕ) (i : List ℕ) → read_answer b v i ≡ read_answer (padded ss b) v i
+  pad_read v i = ap (λ t. cond t (cond (within (pick b.reach v) i) (done (b.at v i)) (refused 2 0)) (refused 1 0)) (same_known v)
+
   pub pad_written : (v : ℕ) (i : List ℕ) (x : E) (r : Bool) (c : Meaning E) → Written r b v i x c → Written r (padded ss b) v i x (padded ss c)
   pad_written v i x r c w = record { shapes = refl; reach = w.reach; put = w.put; others = λ u j p ne. w.others u j (same_reach u j ∙ p) ne }
 
@@ -114,6 +129,20 @@ module _ {E : Type 0} (z : E) (m : ℕ) (ss : List (List ℕ)) (b : Meaning E) (
   }
 
 module _ {E : Type 0} (a : Algebra E) (m : ℕ) (ss : List (List ℕ)) (b : Meaning E) (ok : Padded a.zero m ss b) (v : ℕ) (i : List ℕ) (x : E) where
+  -- what is neither zero nor in its true shape is refused, by what a read answers
+  pub pad_spare : (y : E) → (has ss v && within (pick ss v) i) ≡ false → is_zero a x ≡ false → done y ≡ read_answer b v i → refused 3 0 ≡ write_answer a (padded ss b) v i x
+  pad_spare y p q e =
+      let k = read_since (has b.shapes v) (within (pick b.reach v) i) (b.at v i) y e in
+      let h = sym (same_known a.zero m ss b ok v) ∙ k.0 in
+      let o = and_second (has ss v) (within (pick ss v) i) h p in
+      sym (cond-true (has ss v) _ _ h ∙ cond-true (within (pick b.reach v) i) _ _ k.1 ∙ cond-false (within (pick ss v) i || is_zero a x) _ _ (or_from (within (pick ss v) i) (is_zero a x) o q))
+
+  pub pad_refused : (n p : ℕ) → refused n p ≡ read_answer b v i → refused n p ≡ write_answer a (padded ss b) v i x
+  pad_refused n p e =
+      let u : Answer Unit = cond (within (pick ss v) i || is_zero a x) (done tt) (refused 3 0) in
+      unread_since (has b.shapes v) (within (pick b.reach v) i) (b.at v i) u n p e
+      ∙ ap (λ t. cond t (cond (within (pick b.reach v) i) u (refused 2 0)) (refused 1 0)) (same_known a.zero m ss b ok v)
+
   -- anything else is asked of the store below
   pub pad_answer : (within (pick ss v) i ≡ true) ⊎ (is_zero a x ≡ true) → write_answer a b v i x ≡ write_answer a (padded ss b) v i x
   pad_answer h =

@@ -1,13 +1,14 @@
 -- Extents rounded up to a multiple of a vector length. Assumes nothing.
-use Rattle.std.specs.Prelude.{◌≡◌, ℕ, zero, suc, ◌+◌, ◌-◌, ◌*◌, ◌/◌, ◌<◌, ◌≤◌, Bool, true, false, cond, List, [], ◌∷◌, length, drop, ◌==◌, slice_index_or, refl}
+use Rattle.std.specs.Prelude.{◌≡◌, ℕ, zero, suc, ◌+◌, ◌-◌, ◌*◌, ◌/◌, ◌<◌, ◌≤◌, Bool, true, false, cond, List, [], ◌∷◌, length, drop, Some, None, ◌&&◌, ◌==◌, slice_index_or, refl}
 use Rattle.std.proofs.Common.{sym, ap, ◌∙◌, mod-lt, add-mul, ⊎_elim, arith}
 use Rattle.std.proofs.Math.Nat.{mul-mod_left}
 use Rattle.std.proofs.lemmas.Nat.{div-add-mod', mul-le}
 use Rattle.std.proofs.lemmas.List.{get_or-map}
-use Rattle.std.proofs.lemmas.Bool.{and_parts, cases_order, false≢true}
+use Rattle.std.proofs.lemmas.Bool.{and_parts, le-leb, cases_order, false≢true}
 use Rattle.indices.specs.Places.{within, proper, pick, at1}
 use Rattle.refusals.specs.Refusals.{done, refused}
-use Rattle.shapes.specs.Shapes.{zeros}
+use Rattle.shapes.specs.declared.declaration.Declaration.{Declaration}
+use Rattle.shapes.specs.Shapes.{zeros, shape_declared, declared_extents}
 use Rattle.shapes.proofs.Numbering.{within_parts, within_step}
 use Rattle.indices.proofs.Entries.{at1_at}
 use Rattle.padding.specs.Rounding.{round, rounded, all_rounded, rounding, rounding_from, LeastMultiple}
@@ -67,3 +68,15 @@ pub zeros_drop : (es : List ℕ) (n : ℕ) → zeros es ≡ true → zeros (drop
 zeros_drop es zero h = h
 zeros_drop [] (suc n) h = h
 zeros_drop (e ∷ es) (suc n) h = zeros_drop es n (and_parts (e == 0) (zeros es) h).1
+
+and_yes : (p q : Bool) → q ≡ true → (p && q) ≡ p
+and_yes true q e = e
+and_yes false q e = refl
+
+-- the declaration of the rounded extents is judged by these alone
+pub shape_rounded : (m : ℕ) (es : List ℕ) (d : Declaration) → d.rank ≤ 4 → declared_extents d ≡ rounded m es → zeros (drop d.rank d.extents) ≡ true → shape_declared d ≡ cond (proper (rounded m es)) (Some (rounded m es)) None
+shape_rounded m es d l e z =
+    let p = proper (declared_extents d) in
+    ap (λ t. cond (t && (p && zeros (drop d.rank d.extents))) (Some (declared_extents d)) None) (le-leb d.rank 4 l)
+    ∙ ap (λ t. cond t (Some (declared_extents d)) None) (and_yes p (zeros (drop d.rank d.extents)) z)
+    ∙ ap (λ t. cond (proper t) (Some t) None) e
