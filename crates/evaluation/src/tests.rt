@@ -2,8 +2,8 @@
 use super::tray::work_out;
 use super::value::value;
 use elements::kind::Kind;
-use elements::legs::{Legs, costing};
-use elements::metres::metres;
+use elements::legs::Legs;
+use elements::metres::Metres;
 use elements::quantity::Quantity;
 use padding::layer;
 use refusals::refusal::Refusal;
@@ -55,9 +55,9 @@ fn sheet() -> Result<CheckedSheet, Refusal> {
 
 #[test]
 fn metres_over_cells(rt: HostRuntime) -> Result<(), Fail> {
-    let (z, o) = (metres(0), metres(7));
-    let (a, b, c) = (metres(1), metres(2), metres(3));
-    let (d, e, f) = (metres(4), metres(5), metres(6));
+    let (z, o) = (Metres::of(0), Metres::of(7));
+    let (a, b, c) = (Metres::of(1), Metres::of(2), Metres::of(3));
+    let (d, e, f) = (Metres::of(4), Metres::of(5), Metres::of(6));
     let held = [a, b, c, d, e, f, a, z, b, a, z, c, o, o, o, o, o];
     let Ok(cells) = Cells::open(&tables(), Vec::from_slice(rt.alloc(), &held)?) else {
         return Err(Fail::new("not opened"));
@@ -65,14 +65,17 @@ fn metres_over_cells(rt: HostRuntime) -> Result<(), Fail> {
     let sheet = sheet()?;
     let mut tray = [o; 5];
     assert_eq!(rt; work_out(&cells, &sheet, 1, &mut tray), Some(4));
-    assert_eq!(rt; tray, [e, metres(11), metres(14), metres(23), o]);
+    assert_eq!(rt;
+        tray,
+        [e, Metres::of(11), Metres::of(14), Metres::of(23), o]
+    );
     let mut scalar = [o; 2];
     assert_eq!(rt; work_out(&cells, &sheet, 2, &mut scalar), Some(1));
-    assert_eq!(rt; scalar, [metres(28), o]);
+    assert_eq!(rt; scalar, [Metres::of(28), o]);
     assert_eq!(rt; work_out(&cells, &sheet, 3, &mut tray), None);
     assert_eq!(rt; work_out(&cells, &sheet, 1, &mut scalar), None);
-    assert_eq!(rt; scalar, [metres(28), o]);
-    assert_eq!(rt; value(&cells, &sheet, 4, &[2, 1]), Some(metres(14)));
+    assert_eq!(rt; scalar, [Metres::of(28), o]);
+    assert_eq!(rt; value(&cells, &sheet, 4, &[2, 1]), Some(Metres::of(14)));
     assert_eq!(rt; value(&cells, &sheet, 4, &[2, 3]), None);
     assert_eq!(rt; value(&cells, &sheet, 6, &[]), None);
     Ok(())
@@ -80,9 +83,9 @@ fn metres_over_cells(rt: HostRuntime) -> Result<(), Fail> {
 
 #[test]
 fn legs_over_padded_cells(rt: HostRuntime) -> Result<(), Fail> {
-    let (z, o) = (Legs::zero(), costing(7));
-    let (a, b, c) = (costing(1), costing(2), costing(3));
-    let (d, e, f) = (costing(4), costing(5), costing(6));
+    let (z, o) = (Legs::zero(), Legs::of(7));
+    let (a, b, c) = (Legs::of(1), Legs::of(2), Legs::of(3));
+    let (d, e, f) = (Legs::of(4), Legs::of(5), Legs::of(6));
     let mut held = Vec::from_slice(
         rt.alloc(),
         &[a, b, c, o, d, e, f, o, o, o, o, o, o, o, o, o],

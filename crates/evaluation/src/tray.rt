@@ -31,10 +31,8 @@ pub fn reach_of<S: Store>(s: &S, v: usize) -> Option<Shape>
         };
         extents[d] = extent;
     }
-    Shape::of(&Declaration {
-        rank: rank as u16,
-        extents,
-    })
+    let rank = rank as u16;
+    Shape::try_from(&Declaration { rank, extents }).ok()
 }
 
 // The value of a node at the place of number k, put into the tray there.

@@ -28,8 +28,6 @@ pub fn value<K: Kind, S: Store<Item = K>>(
     if !in_reach(s, sheet, k, index) {
         return None;
     }
-    match Index::of(index) {
-        Some(at) => Some(evaluate(s, sheet, k, at)),
-        None => None,
-    }
+    let at = Index::try_from(index).ok()?;
+    Some(evaluate(s, sheet, k, at))
 }

@@ -7,8 +7,8 @@ use self::layouts::{
 };
 use self::report::Figures;
 use elements::kind::Kind;
-use elements::legs::{Legs, costing};
-use elements::metres::{Metres, metres};
+use elements::legs::Legs;
+use elements::metres::Metres;
 use elements::quantity::Quantity;
 use std::fmt;
 
@@ -17,29 +17,29 @@ mod report;
 mod tables;
 
 fn in_metres() -> Figures<Metres> {
-    let (a, b, c) = (metres(1), metres(2), metres(3));
-    let z = metres(0);
+    let (a, b, c) = (Metres::of(1), Metres::of(2), Metres::of(3));
+    let z = Metres::of(0);
     Figures {
         kind: "metres",
-        a: [a, b, c, metres(4), metres(5), metres(6)],
+        a: [a, b, c, Metres::of(4), Metres::of(5), Metres::of(6)],
         b: [a, z, b, a, z, c],
-        product: [metres(5), metres(11), metres(14), metres(23)],
-        trace: metres(28),
-        filler: metres(7),
+        product: [Metres::of(5), Metres::of(11), Metres::of(14), Metres::of(23)],
+        trace: Metres::of(28),
+        filler: Metres::of(7),
     }
 }
 
 // Where metres have zero, there is no way.
 fn in_legs() -> Figures<Legs> {
-    let (a, b, c) = (costing(1), costing(2), costing(3));
+    let (a, b, c) = (Legs::of(1), Legs::of(2), Legs::of(3));
     let z = Legs::zero();
     Figures {
         kind: "legs",
-        a: [a, b, c, costing(4), costing(5), costing(6)],
+        a: [a, b, c, Legs::of(4), Legs::of(5), Legs::of(6)],
         b: [a, z, b, a, z, c],
-        product: [b, c, costing(5), costing(6)],
+        product: [b, c, Legs::of(5), Legs::of(6)],
         trace: b,
-        filler: costing(7),
+        filler: Legs::of(7),
     }
 }
 

@@ -3,7 +3,7 @@
 #![tactic(auto)]
 
 use self::piles::{Entry, TABLES, WIDE, bytes, elements, print_padded, print_pile};
-use elements::metres::{Metres, metres};
+use elements::metres::Metres;
 use images::image::Image;
 use stores::cells::Cells;
 
@@ -18,7 +18,7 @@ fn entry(table: usize, row: u16, column: u16, value: i64) -> Entry<Metres> {
     Entry {
         table,
         index: [row, column],
-        element: metres(value),
+        element: Metres::of(value),
     }
 }
 
@@ -41,28 +41,28 @@ fn factors() -> [Entry<Metres>; 12] {
 }
 
 fn print_over_cells(rt: &HostRuntime) -> anyhow::Result<()> {
-    match Cells::open(&TABLES, elements(rt.alloc(), metres(FILLER), 16)?) {
+    match Cells::open(&TABLES, elements(rt.alloc(), Metres::of(FILLER), 16)?) {
         Ok(mut cells) => print_pile(rt, "cells", &factors(), &mut cells),
         Err(declined) => Err(declined.refusal.into()),
     }
 }
 
 fn print_over_image(rt: &HostRuntime) -> anyhow::Result<()> {
-    match Image::<Metres>::open(&TABLES, bytes(rt.alloc(), metres(FILLER), [6, 6, 4])?) {
+    match Image::<Metres>::open(&TABLES, bytes(rt.alloc(), Metres::of(FILLER), [6, 6, 4])?) {
         Ok(mut image) => print_pile(rt, "image", &factors(), &mut image),
         Err(declined) => Err(declined.refusal.into()),
     }
 }
 
 fn print_over_padded_cells(rt: &HostRuntime) -> anyhow::Result<()> {
-    match Cells::open(&WIDE, elements(rt.alloc(), metres(FILLER), 48)?) {
+    match Cells::open(&WIDE, elements(rt.alloc(), Metres::of(FILLER), 48)?) {
         Ok(cells) => print_padded(rt, "pad4-cells", &factors(), cells),
         Err(declined) => Err(declined.refusal.into()),
     }
 }
 
 fn print_over_padded_image(rt: &HostRuntime) -> anyhow::Result<()> {
-    match Image::<Metres>::open(&WIDE, bytes(rt.alloc(), metres(FILLER), [16, 16, 16])?) {
+    match Image::<Metres>::open(&WIDE, bytes(rt.alloc(), Metres::of(FILLER), [16, 16, 16])?) {
         Ok(image) => print_padded(rt, "pad4-image", &factors(), image),
         Err(declined) => Err(declined.refusal.into()),
     }

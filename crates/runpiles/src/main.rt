@@ -5,7 +5,7 @@
 use self::piles::{TABLES, WIDE, bytes};
 use self::printing::print_rows;
 use self::product::{calls, sheet};
-use elements::metres::{Metres, metres};
+use elements::metres::Metres;
 use images::image::Image;
 use padding::layer;
 use runs::agreement::agree;
@@ -20,19 +20,19 @@ mod product;
 const FILLER: i64 = 7;
 
 fn print_plain(rt: &HostRuntime, sheet: &CheckedSheet) -> anyhow::Result<()> {
-    let cells = match Cells::open(&TABLES, vec![in rt.alloc(); metres(FILLER); 16]?) {
+    let cells = match Cells::open(&TABLES, vec![in rt.alloc(); Metres::of(FILLER); 16]?) {
         Ok(cells) => cells,
         Err(declined) => return Err(declined.refusal.into()),
     };
     let image = match Image::<Metres>::open(
         &TABLES,
-        bytes(rt.alloc(), metres(FILLER), [6, 6, 4])?,
+        bytes(rt.alloc(), Metres::of(FILLER), [6, 6, 4])?,
     ) {
         Ok(image) => image,
         Err(declined) => return Err(declined.refusal.into()),
     };
     let mut entries = calls();
-    let mut tray = vec![in rt.alloc(); metres(0); 4096]?;
+    let mut tray = vec![in rt.alloc(); Metres::of(0); 4096]?;
     match agree(sheet, cells, image, &mut entries, tray.as_mut_slice()) {
         Ok(_) => print_rows(rt, ["cells", "image"], entries),
         Err(declined) => Err(declined.refusal.into()),
@@ -41,7 +41,7 @@ fn print_plain(rt: &HostRuntime, sheet: &CheckedSheet) -> anyhow::Result<()> {
 
 // The same over padding with vector length 4 on top of each.
 fn print_padded(rt: &HostRuntime, sheet: &CheckedSheet) -> anyhow::Result<()> {
-    let cells = match Cells::open(&WIDE, vec![in rt.alloc(); metres(FILLER); 48]?) {
+    let cells = match Cells::open(&WIDE, vec![in rt.alloc(); Metres::of(FILLER); 48]?) {
         Ok(cells) => cells,
         Err(declined) => return Err(declined.refusal.into()),
     };
@@ -51,7 +51,7 @@ fn print_padded(rt: &HostRuntime, sheet: &CheckedSheet) -> anyhow::Result<()> {
     };
     let image = match Image::<Metres>::open(
         &WIDE,
-        bytes(rt.alloc(), metres(FILLER), [16, 16, 16])?,
+        bytes(rt.alloc(), Metres::of(FILLER), [16, 16, 16])?,
     ) {
         Ok(image) => image,
         Err(declined) => return Err(declined.refusal.into()),
@@ -61,7 +61,7 @@ fn print_padded(rt: &HostRuntime, sheet: &CheckedSheet) -> anyhow::Result<()> {
         Err(declined) => return Err(declined.refusal.into()),
     };
     let mut entries = calls();
-    let mut tray = vec![in rt.alloc(); metres(0); 4096]?;
+    let mut tray = vec![in rt.alloc(); Metres::of(0); 4096]?;
     match agree(sheet, left, right, &mut entries, tray.as_mut_slice()) {
         Ok(_) => print_rows(rt, ["pad4-cells", "pad4-image"], entries),
         Err(declined) => Err(declined.refusal.into()),

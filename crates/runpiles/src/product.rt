@@ -3,7 +3,7 @@ ghost use Rattle.std.specs.Prelude.{◌≡◌, [], ◌∷◌};
 ghost use Rattle.indices.specs.Coordinates.{coordinates};
 
 use super::piles::TABLES;
-use elements::metres::{Metres, metres};
+use elements::metres::Metres;
 use indices::index::Index;
 use refusals::refusal::Refusal;
 use runs::list::{Call, Entry, Reply};
@@ -73,7 +73,7 @@ fn put(variable: usize, row: u16, column: u16, value: i64) -> Entry<Metres> {
     entry(Call::Put {
         variable,
         index: place(row, column),
-        element: metres(value),
+        element: Metres::of(value),
     })
 }
 

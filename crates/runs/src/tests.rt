@@ -2,7 +2,7 @@
 use super::agreement::agree;
 use super::list::{Call, Entry, Reply};
 use elements::kind::Kind;
-use elements::metres::{Metres, metres};
+use elements::metres::Metres;
 use elements::quantity::Quantity;
 use indices::index::Index;
 use padding::layer;
@@ -53,16 +53,16 @@ fn turning() -> Result<CheckedSheet, Fail> {
 // Passes the calls to a run over cells, and to one over padding with vector length 4; all elements are 7 at first.
 fn pass(rt: &HostRuntime, entries: &mut [Entry<Metres>]) -> Result<(), Fail> {
     let sheet = turning()?;
-    let Ok(cells) = Cells::open(&[square(2)], vec![in rt.alloc(); metres(7); 4]?) else {
+    let Ok(cells) = Cells::open(&[square(2)], vec![in rt.alloc(); Metres::of(7); 4]?) else {
         return Err(Fail::new("no cells"));
     };
-    let Ok(wide) = Cells::open(&[square(4)], vec![in rt.alloc(); metres(7); 16]?) else {
+    let Ok(wide) = Cells::open(&[square(4)], vec![in rt.alloc(); Metres::of(7); 16]?) else {
         return Err(Fail::new("no wide cells"));
     };
     let Ok(padding) = layer::open(&[square(2)], 4, wide) else {
         return Err(Fail::new("no padding"));
     };
-    let mut tray = vec![in rt.alloc(); metres(0); 4096]?;
+    let mut tray = vec![in rt.alloc(); Metres::of(0); 4096]?;
     match agree(&sheet, cells, padding, entries, tray.as_mut_slice()) {
         Ok(_) => Ok(()),
         Err(_) => Err(Fail::new("no runs")),
@@ -82,7 +82,7 @@ fn put(row: u16, column: u16, value: i64) -> Result<Entry<Metres>, Fail> {
         Some(index) => Ok(entry(Call::Put {
             variable: 1,
             index,
-            element: metres(value),
+            element: Metres::of(value),
         })),
         None => Err(Fail::new("no index")),
     }
@@ -108,8 +108,8 @@ fn element(reply: Reply<Metres>) -> Result<Metres, Fail> {
 
 // Both runs replied with so many metres.
 fn check_element(rt: &impl Abort, entry: Entry<Metres>, value: i64) -> Result<(), Fail> {
-    assert_eq!(rt; element(entry.left)?, metres(value));
-    assert_eq!(rt; element(entry.right)?, metres(value));
+    assert_eq!(rt; element(entry.left)?, Metres::of(value));
+    assert_eq!(rt; element(entry.right)?, Metres::of(value));
     Ok(())
 }
 

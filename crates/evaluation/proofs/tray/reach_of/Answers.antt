@@ -2,7 +2,8 @@ use Rattle.std.proofs.Common.{◌≡◌, ◌<◌, [], ◌∷◌, ◌++◌, lengt
 use Rattle.std.proofs.lemmas.List.{take_all, take_more, take_more_set, drop-set-lt}
 use Rattle.std.proofs.lemmas.Bool.{cond-true, cond-false}
 use Rattle.indices.specs.Places.{pick, has}
-use Rattle.shapes.specs.Shapes.{zeros}
+use Rattle.std.specs.Option.{option_map}
+use Rattle.shapes.specs.Shapes.{zeros, extents_of}
 use Rattle.shapes.proofs.Asked.{done_since, done_same, never_refused, refused_since}
 use Rattle.shapes.proofs.Tables.{extent_next}
 use Rattle.evaluation.proofs.Reached.{reach_rank, reach_known, reach_declared, rank_told, zeros_drop}
@@ -66,7 +67,7 @@ returns g c =
     let n = rank_told b law v c.in-Ok.rank k c.in-Ok.ensures in
     let out = c.loop-d.extents in
     let q : c.in-Ok.rank ≡ d = omega (arith, c.loop-d-test.false, c.loop-d.auto.d-end) in
-    c.of.ensures
+    ap (option_map extents_of) c.ok.ensures.value ∙ c.try_from.ensures
     ∙ reach_declared b law v k (record { rank = c.in-Ok.rank; extents = out }) (omega (arith, n, reach_rank b law v k))
     (ap (λ t. take t out) q ∙ c.loop-d.invariant.1 ∙ take_all d rs (omega (arith, n, c.loop-d-test.false))) (ap (λ t. zeros (drop t out)) n ∙ c.loop-d.invariant.2)
     ∙ sym (cond-true (has b.shapes v) (Some rs) None k)

@@ -1,8 +1,7 @@
-use Rattle.std.proofs.Common.{◌&&◌, leb, length, Some, None, sym, refl, ap, ◌∙◌, arith}
-use Rattle.std.proofs.lemmas.Bool.{and_parts, leb-false}
+use Rattle.std.proofs.Common.{◌&&◌, Some, None, sym, refl, ap, ◌∙◌, arith}
+use Rattle.std.proofs.lemmas.Bool.{and_parts}
 use Rattle.indices.specs.Places.{within}
-use Rattle.indices.specs.Coordinates.{coordinates}
-use Rattle.shapes.proofs.Asked.{some_since, none_since}
+use Rattle.shapes.proofs.Held.{held, unheld}
 use Rattle.indices.proofs.Within.{within_length}
 use Rattle.sheets.specs.Sheets.{contents}
 use Rattle.sheets.specs.Terms.{node_there}
@@ -34,26 +33,26 @@ pub evaluate-requires : goal.evaluate-requires
 evaluate-requires g c =
     let b = g.S.Store.meaning c.args.s.now in let d = contents c.args.sheet.now in let i = c.args.index.now in
     let p = and_parts (node_there d c.args.k) (within (node_reach b d c.args.k) i) (sym c.if-not-in_reach.ensures) in
-    let e = (some_since (leb (length i) 8) (coordinates c.in-Some.at) i c.in-Some.ensures).1 in
+    let e = held i c.try_from.result c.try_from.ensures c.in_ok-at.at c.in_ok-at.ensures.value in
     record { fits = c.if-not-fits.ensures.same refl; there = p.0; reached = ap (within (node_reach b d c.args.k)) e ∙ p.1 }
 
-pub returns-in-Some : goal.returns-in-Some
-returns-in-Some g c =
+pub returns : goal.returns
+returns g c =
     let b = g.S.Store.meaning c.args.s.now in let d = contents c.args.sheet.now in let i = c.args.index.now in
     let law = padding_law g.K.Kind.algebra g.met.K.Kind.lawful b (g.met.S.Store.lawful c.args.s.now) in
-    let e = (some_since (leb (length i) 8) (coordinates c.in-Some.at) i c.in-Some.ensures).1 in
+    let e = held i c.try_from.result c.try_from.ensures c.in_ok-at.at c.in_ok-at.ensures.value in
     record {
       value = ap Some (c.evaluate.ensures ∙ ap (node_value g.K.Kind.algebra b d c.args.k) e) ∙ sym (both_pass (Some (node_value g.K.Kind.algebra b d c.args.k i)) None (fits b d) (node_there d c.args.k && within (node_reach b d c.args.k) i) c.if-not-fits.ensures.value c.if-not-in_reach.ensures);
       law = law;
     }
 
-pub returns-in-None : goal.returns-in-None
-returns-in-None g c =
+pub returns-in_err-at : goal.returns-in_err-at
+returns-in_err-at g c =
     let b = g.S.Store.meaning c.args.s.now in let d = contents c.args.sheet.now in let i = c.args.index.now in
     let w = works g.K.Kind.algebra b c.args.sheet.now g.met.K.Kind.lawful (g.met.S.Store.lawful c.args.s.now) (c.if-not-fits.ensures.same refl) in
     let p = and_parts (node_there d c.args.k) (within (node_reach b d c.args.k) i) (sym c.if-not-in_reach.ensures) in
     let l = within_length (node_reach b d c.args.k) i p.1 in
     let r = rank_at (setting g.K.Kind.algebra b d) w c.args.k p.0 in
     let m = ((judged c.args.sheet.now).nodes c.args.k p.0).rank in
-    let n = leb-false (length i) 8 (none_since (leb (length i) 8) i c.in-None.ensures) in
+    let n = unheld i c.try_from.result c.try_from.ensures c.in_err-at.ensures.value in
     absurd (omega arith)
