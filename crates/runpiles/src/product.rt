@@ -57,7 +57,7 @@ pub(super) fn sheet() -> Result<CheckedSheet, Refusal> {
 fn place(row: u16, column: u16) -> Index
     ensures { coordinates result ≡ row ∷ column ∷ [] }
 {
-    Index::of(&[row, column]).unwrap()
+    Index::try_from([row, column].as_slice()).unwrap()
 }
 
 // A call that nothing has replied to yet.

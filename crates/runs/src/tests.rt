@@ -78,20 +78,20 @@ fn entry(call: Call<Metres>) -> Entry<Metres> {
 }
 
 fn put(row: u16, column: u16, value: i64) -> Result<Entry<Metres>, Fail> {
-    match Index::of(&[row, column]) {
-        Some(index) => Ok(entry(Call::Put {
+    match Index::try_from([row, column].as_slice()) {
+        Ok(index) => Ok(entry(Call::Put {
             variable: 1,
             index,
             element: Metres::of(value),
         })),
-        None => Err(Fail::new("no index")),
+        Err(_) => Err(Fail::new("no index")),
     }
 }
 
 fn fetch(row: u16, column: u16) -> Result<Entry<Metres>, Fail> {
-    match Index::of(&[row, column]) {
-        Some(index) => Ok(entry(Call::Fetch { variable: 1, index })),
-        None => Err(Fail::new("no index")),
+    match Index::try_from([row, column].as_slice()) {
+        Ok(index) => Ok(entry(Call::Fetch { variable: 1, index })),
+        Err(_) => Err(Fail::new("no index")),
     }
 }
 
