@@ -69,6 +69,7 @@ fn check_part<K: Kind>(bytes: &[u8], at: usize, first: usize, cells: usize) -> R
     requires few { first + cells ≤ 65537 }
     ensures { answered result ≡ codes_of K.Kind.algebra bytes.now at first cells }
 {
+    // a range: the cells may lie anywhere in the buffer, which is not cut into eights
     for n in 0..cells {
         if K::decode(number64(bytes, at + 8 * n)).is_none() {
             return Err(Refusal::BadCode(first + n));

@@ -62,7 +62,7 @@ impl Index {
         &self.coords[..self.len]
     }
 
-    // The entry of a dimension, from 1; 0, which is no coordinate and no extent, where there is none.
+    // The entry of a dimension, from 1; 0, which is no coordinate and no extent, where there is none: callers need no Option.
     pub fn entry(&self, d: usize) -> u16
         ensures { result ≡ at1 (coordinates self.now) d }
     {
