@@ -7,7 +7,7 @@ ghost use Rattle.runs.specs.Lists.{call_of, reply_of, calls_of, lefts_of, rights
 ghost use Rattle.runs.specs.Opening.{open_answer};
 
 use super::calls::{fetch, put, rewind, step};
-use super::list::{Call, Entry, Pair, Reply};
+use super::list::{Call, Entry, Outcome, Pair, Reply};
 use super::opening::{close, open};
 use super::run::{Opened, Run};
 use elements::kind::Kind;
@@ -20,30 +20,27 @@ fn perform<K: Kind, S: Store<Item = K>>(run: &mut Run<S>, call: Call<K>, tray: &
     ensures sheet { run.new.sheet ≡ run.old.sheet }
     ensures moves { Moves K.Kind.algebra (contents run.old.sheet) (call_of (length tray.old) call) (record { meaning = S.Store.meaning run.old.store; next = run.old.next }) (reply_of result) (record { meaning = S.Store.meaning run.new.store; next = run.new.next }) }
 {
-    // a match for each call: a closure whose result alone names K gets no proof, so `map_or_else` does not serve
     match call {
-        Call::Fetch { variable, index } => match fetch(run, variable, index.as_slice()) {
-            Ok(x) => Reply::Element(x),
-            Err(refusal) => Reply::Refused(refusal),
-        },
+        Call::Fetch { variable, index } => {
+            let x = fetch(run, variable, index.as_slice())?;
+            Ok(Outcome::Element(x))
+        }
         Call::Put {
             variable,
             index,
             element,
-        } => match put(run, variable, index.as_slice(), element) {
-            Ok(()) => Reply::Done,
-            Err(refusal) => Reply::Refused(refusal),
-        },
+        } => {
+            put(run, variable, index.as_slice(), element)?;
+            Ok(Outcome::Done)
+        }
         Call::Step { size } => {
             let n = size.min(tray.len());
-            match step(run, &mut tray[..n]) {
-                Ok(done) => Reply::Statement(done),
-                Err(refusal) => Reply::Refused(refusal),
-            }
+            let done = step(run, &mut tray[..n])?;
+            Ok(Outcome::Statement(done))
         }
         Call::Rewind => {
             rewind(run);
-            Reply::Done
+            Ok(Outcome::Done)
         }
     }
 }
