@@ -70,6 +70,7 @@ fn check_part<K: Kind>(bytes: &[u8], at: usize, first: usize, cells: usize) -> R
     requires few { first + cells ≤ 65537 }
     ensures { answered result ≡ codes_of K.Kind.algebra bytes.now at first cells }
 {
+    // counts cells, of which there is no slice
     for n in 0..cells {
         if K::decode(number64(bytes, at + 8 * n)).is_none() {
             return Err(Refusal::BadCode(first + n));

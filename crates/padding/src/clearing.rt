@@ -16,6 +16,7 @@ fn clear<K: Kind, S: Store<Item = K>>(below: &mut S, v: usize, own: &Shape, wide
     requires shape { pick (S.Store.meaning below.old).shapes v ≡ extents_of wide.now }
     ensures { ClearedOne K.Kind.algebra.zero (extents_of own.now) (extents_of wide.now) v (S.Store.meaning below.old) (S.Store.meaning below.new) }
 {
+    // counts places, of which there is no slice
     for k in 0..wide.size() {
         let Some(index) = wide.index(k) else {
             return;
