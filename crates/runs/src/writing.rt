@@ -22,6 +22,7 @@ pub(crate) fn write_all<K: Kind, S: Store<Item = K>>(
     ensures all { result ≡ true }
     ensures wrote { Wrote K.Kind.algebra.zero (S.Store.meaning s.old) v tray.now (S.Store.meaning s.new) }
 {
+    // counts places; the tray may hold more elements than there are
     for k in 0..reach.size() {
         let Some(at) = reach.index(k) else {
             return false;
