@@ -32,7 +32,9 @@ pub(super) fn print_pile<K: Kind + fmt::Display, S: Store<Item = K>>(
     s: &mut S,
 ) -> anyhow::Result<()> {
     put(s, entries)?;
-    let t = product::plan(s, 1, 2, 3).ok_or(anyhow!("the tables do not fit each other"))?;
+    let Some(t) = product::plan(s, 1, 2, 3) else {
+        return Err(anyhow!("the tables do not fit each other"));
+    };
     product::multiply(s, t)?;
     let c11 = s.read(3, &[1, 1])?;
     let c12 = s.read(3, &[1, 2])?;

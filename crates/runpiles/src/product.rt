@@ -2,11 +2,11 @@
 ghost use Rattle.std.specs.Prelude.{◌≡◌, [], ◌∷◌};
 ghost use Rattle.indices.specs.Coordinates.{coordinates};
 
-use super::piles::TABLES;
 use elements::metres::Metres;
 use indices::index::Index;
 use refusals::refusal::Refusal;
 use runs::list::{Call, Entry, Outcome};
+use samples::tables::TABLES;
 use sheets::checked::CheckedSheet;
 use sheets::node::{Node, Statement};
 use sheets::verdict::judge;
