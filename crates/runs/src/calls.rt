@@ -71,9 +71,7 @@ pub fn step<K: Kind, S: Store<Item = K>>(run: &mut Run<S>, tray: &mut [K]) -> Re
     let Some(_) = work_out(&run.store, &run.sheet, n, tray) else {
         return Err(Refusal::ValueNotTaken);
     };
-    if !write_all(&mut run.store, v, &reach, tray) {
-        return Err(Refusal::ValueNotTaken);
-    }
+    write_all(&mut run.store, v, &reach, tray).map_err(|_| Refusal::ValueNotTaken)?;
     run.next = n + 1;
     Ok(n)
 }
