@@ -7,4 +7,5 @@ pub mod Sources
 pub mod Stacks
 pub mod Steps
 pub mod Targets
+pub mod Unwrapped
 pub mod Working

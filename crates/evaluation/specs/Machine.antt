@@ -14,6 +14,8 @@
 --   Room         what a frame needs to be resumed
 --   Resumed      what a frame makes of the value that it waited for
 use Rattle.std.specs.Prelude.{◌≡◌, ℕ, zero, suc, ◌+◌, ◌-◌, ◌*◌, ◌<◌, ◌≤◌, Bool, true, ◌&&◌, List, [], ◌∷◌, length, Some, None, Option, nat_le, slice_index_or}
+use Rattle.std.specs.declared.ops.ControlFlow.{ControlFlow}
+use Rattle.std.specs.declared.ops.ControlFlow.TheVariants.{Continue, Break}
 use Rattle.elements.specs.Algebra.{Algebra, Laws}
 use Rattle.indices.specs.declared.index.Index.{Index}
 use Rattle.indices.specs.Dimensions.{two_of, inserted}
@@ -30,8 +32,6 @@ use Rattle.evaluation.specs.declared.frame.Focus.TheVariants.{Down, Up}
 use Rattle.evaluation.specs.declared.frame.Frame.{Frame}
 use Rattle.evaluation.specs.declared.frame.Frame.TheVariants.{Left, Right, Sum}
 use Rattle.evaluation.specs.declared.frame.Stack.{Stack}
-use Rattle.evaluation.specs.declared.frame.Turn.{Turn}
-use Rattle.evaluation.specs.declared.frame.Turn.TheVariants.{Next, Done}
 use Rattle.evaluation.specs.Value.{applied, spans, node_reach, node_value}
 
 pub record Setting (E : Type 0) : Type 0 where
@@ -141,9 +141,9 @@ pub record Stepped {E : Type 0} (t : Setting E) (fs : List Frame) (f : Focus) (f
   pub same : whole t fs' f' ≡ whole t fs f
   pub less : load t fs' f' < load t fs f
 
-abbrev pub Turned : {E : Type 0} → Setting E → List Frame → Focus → List Frame → Turn → Type 0
-Turned t fs f fs' (Next f') = Stepped t fs f fs' f'
-Turned t fs f fs' (Done c) = decoded t.algebra c ≡ whole t fs f
+abbrev pub Turned : {E : Type 0} → Setting E → List Frame → Focus → List Frame → ControlFlow ℕ Focus → Type 0
+Turned t fs f fs' (Continue f') = Stepped t fs f fs' f'
+Turned t fs f fs' (Break c) = decoded t.algebra c ≡ whole t fs f
 
 abbrev pub Room : Frame → List Frame → Type 0
 Room (Left op right at) fs = length fs < 15

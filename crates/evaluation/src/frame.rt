@@ -36,12 +36,6 @@ pub(crate) enum Focus {
     Up { code: u64 },
 }
 
-#[derive(Clone, Copy)]
-pub(crate) enum Turn {
-    Next { focus: Focus },
-    Done { code: u64 },
-}
-
 // A node has a depth of at most 16 and each frame stands above a deeper node, so fifteen frames are enough.
 #[derive(Clone, Copy)]
 pub(crate) struct Stack {

@@ -9,6 +9,7 @@ mod fitting;
 mod frame;
 mod machine;
 mod reach;
+mod site;
 mod stack;
 #[cfg(test)]
 mod tests;
