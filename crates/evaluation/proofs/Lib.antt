@@ -1,4 +1,3 @@
-pub mod Answered
 pub mod Spans
 pub mod Filled
 pub mod Padded

@@ -300,7 +300,7 @@ module _ {E : Type 0} {t : Setting E} (w : Works t) where
 
 -- a frame that is resumed
 module _ {E : Type 0} (t : Setting E) (fs : List Frame) (c : ℕ) where
-  pub frame_room : (f : Frame) → Sound t (f ∷ fs) (Up c) → Room f fs
+  frame_room : (f : Frame) → Sound t (f ∷ fs) (Up c) → Room f fs
   unfolding Framed
   frame_room (Left op right at) h = let r = h.frames.0.low in let d = depth_one (expr t right) in omega arith
   frame_room (Right op left) h = tt
@@ -350,7 +350,7 @@ module _ {E : Type 0} (t : Setting E) (fs : List Frame) (c : ℕ) where
           less = omega arith;
         })
 
-  pub resumed_steps : (f : Frame) (gs : List Frame) (x : Focus) → Sound t (f ∷ fs) (Up c) → Resumed t.algebra fs c gs f x → Stepped t (f ∷ fs) (Up c) gs x
+  resumed_steps : (f : Frame) (gs : List Frame) (x : Focus) → Sound t (f ∷ fs) (Up c) → Resumed t.algebra fs c gs f x → Stepped t (f ∷ fs) (Up c) gs x
   resumed_steps f gs x h r = by f h r
     where
       on_top : {y : Focus} (e f : Frame) → f ≡ e → (Sound t (e ∷ fs) (Up c) → Stepped t (e ∷ fs) (Up c) gs y) → Sound t (f ∷ fs) (Up c) → Stepped t (f ∷ fs) (Up c) gs y
@@ -362,12 +362,25 @@ module _ {E : Type 0} (t : Setting E) (fs : List Frame) (c : ℕ) where
       by f h (to_next {k} {m} {n} {l} {limit} {sum} {sum'} {at} {inner} e p q d g) = on_top (Sum k at m n l limit sum) f e (λ o. next_steps k m n l limit sum sum' at gs o d inner p q g) h
       by f h (to_end {k} {m} {n} {l} {limit} {sum} {sum'} {at} e p d g) = on_top (Sum k at m n l limit sum) f e (λ o. end_steps k m n l limit sum sum' at gs o d p g) h
 
+-- on with a value
+module _ {E : Type 0} {t : Setting E} {hs : List Frame} {x : Focus} {c : ℕ} (h : Sound t hs x) (is : x ≡ Up c) where
+  module _ {f : Frame} {fs : List Frame} (e : hs ≡ f ∷ fs) where
+    popped : Sound t (f ∷ fs) (Up c)
+    popped = subst (λ gs. Sound t gs (Up c)) e (subst (Sound t hs) is h)
+
+    pub popped_room : Room f fs
+    popped_room = frame_room t fs c f popped
+
+    pub popped_steps : {gs : List Frame} {y : Focus} → Resumed t.algebra fs c gs f y → Stepped t hs x gs y
+    popped_steps {gs} {y} r =
+        subst (λ z. Stepped t hs z gs y) (sym is) (subst (λ z. Stepped t z (Up c) gs y) (sym e) (resumed_steps t fs c f gs y popped r))
+
+  pub whole_up : hs ≡ [] → decoded t.algebra c ≡ whole t hs x
+  unfolding whole plug
+  whole_up e = ap (λ z. plug t z (decoded t.algebra c)) (sym e) ∙ ap (whole t hs) (sym is)
+
 -- with no frames
 module _ {E : Type 0} (t : Setting E) (fs : List Frame) (e : fs ≡ []) where
-  pub whole_up : (c : ℕ) → decoded t.algebra c ≡ whole t fs (Up c)
-  unfolding whole plug
-  whole_up c = ap (λ x. plug t x (decoded t.algebra c)) (sym e)
-
   pub whole_down : (k : ℕ) (at : Index) → whole t fs (Down k at) ≡ worth t k (coordinates at)
   unfolding whole plug
   whole_down k at = ap (λ x. plug t x (worth t k (coordinates at))) e

@@ -10,7 +10,6 @@ mod frame;
 mod machine;
 mod reach;
 mod site;
-mod stack;
 #[cfg(test)]
 mod tests;
 pub mod tray;

@@ -156,7 +156,7 @@ impl<K: Kind, S: Store<Item = K>> Site<'_, S> {
         requires reached { within (node_reach (S.Store.meaning self.now.store.now) (contents self.now.sheet.now) node) (coordinates at) ≡ true }
         ensures { result ≡ node_value K.Kind.algebra (S.Store.meaning self.now.store.now) (contents self.now.sheet.now) node (coordinates at) }
     {
-        let mut stack = Stack::empty();
+        let mut stack = Stack::new();
         let mut focus = Focus::Down { node, at };
         loop {
             match self.turn(&mut stack, focus) {

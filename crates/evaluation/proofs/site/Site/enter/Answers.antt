@@ -1,9 +1,10 @@
-use Rattle.std.proofs.Common.{take, drop, ap, ◌∙◌}
+use Rattle.std.proofs.Common.{take, drop, ap, ◌∙◌, arith}
 use Rattle.indices.specs.Coordinates.{coordinates}
 use Rattle.sheets.specs.Rules.{info_at}
 use Rattle.sheets.specs.Sheets.{contents}
 use Rattle.evaluation.specs.Machine.{setting, goes}
 use Rattle.evaluation.proofs.Spans.{seen_alike}
+use Rattle.evaluation.proofs.Stacks.{on_top, room_for}
 use Rattle.evaluation.proofs.Steps.{rank_at, variable_reached, down_variable, outer_forks, pointwise_forks, fork_room, down_fork, turned_fits, down_turned, sum_there, sum_dimension, sum_extendable, sum_room, down_sum}
 use Rattle.evaluation.proofs.Unwrapped.{some_there, some_value}
 use Rattle.evaluation.proofs.Working.{works}
@@ -22,7 +23,7 @@ returns-in-Variable g c =
 pub push-requires : goal.push-requires
 push-requires g c =
     let w = works c.args.self.now.sheet.now g.met.K.Kind.lawful (g.met.S.Store.lawful c.args.self.now.store.now) c.args.self.now.fits in
-    fork_room w c.requires.sound (outer_forks w c.requires.sound c.requires.unfolds c.in-Outer.is)
+    (omega arith, room_for _ (fork_room w c.requires.sound (outer_forks w c.requires.sound c.requires.unfolds c.in-Outer.is)))
 
 pub returns-in-Outer : goal.returns-in-Outer
 returns-in-Outer g c =
@@ -30,12 +31,12 @@ returns-in-Outer g c =
     let f = outer_forks w c.requires.sound c.requires.unfolds c.in-Outer.is in
     let r = c.rank-rank.ensures ∙ rank_at w c.in-Outer.a f.left.there in
     let i = coordinates c.args.at in
-    down_fork w c.requires.sound c.first.result c.rest.result f (c.first.ensures ∙ ap (λ j. take j i) r) (c.rest.ensures ∙ ap (λ j. drop j i) r) c.push.ensures
+    down_fork w c.requires.sound c.first.result c.rest.result f (c.first.ensures ∙ ap (λ j. take j i) r) (c.rest.ensures ∙ ap (λ j. drop j i) r) (on_top _ c.push.ensures.items)
 
 pub push-requires-in-Pointwise : goal.push-requires-in-Pointwise
 push-requires-in-Pointwise g c =
     let w = works c.args.self.now.sheet.now g.met.K.Kind.lawful (g.met.S.Store.lawful c.args.self.now.store.now) c.args.self.now.fits in
-    fork_room w c.requires.sound (pointwise_forks w c.requires.sound c.requires.unfolds c.in-Pointwise.is)
+    (omega arith, room_for _ (fork_room w c.requires.sound (pointwise_forks w c.requires.sound c.requires.unfolds c.in-Pointwise.is)))
 
 pub returns-in-Pointwise : goal.returns-in-Pointwise
 returns-in-Pointwise g c =
@@ -47,7 +48,7 @@ returns-in-Pointwise g c =
     down_fork w c.requires.sound c.seen-in-Pointwise.result c.seen.result f
     (c.seen-in-Pointwise.ensures ∙ seen_alike (info_at (contents c.args.self.now.sheet.now).infos a).extents (goes t a) i (rank_at w a f.left.there))
     (c.seen.ensures ∙ seen_alike (info_at (contents c.args.self.now.sheet.now).infos b).extents (goes t b) i (rank_at w b f.right.there))
-    c.push-in-Pointwise.ensures
+    (on_top _ c.push-in-Pointwise.ensures.items)
 
 pub unwrap-requires : goal.unwrap-requires
 unwrap-requires g c =
@@ -68,7 +69,7 @@ rounded_of-requires g c =
 pub push-requires-in-Contracted : goal.push-requires-in-Contracted
 push-requires-in-Contracted g c =
     let w = works c.args.self.now.sheet.now g.met.K.Kind.lawful (g.met.S.Store.lawful c.args.self.now.store.now) c.args.self.now.fits in
-    sum_room w c.requires.sound c.requires.unfolds c.in-Contracted.is
+    (omega arith, room_for _ (sum_room w c.requires.sound c.requires.unfolds c.in-Contracted.is))
 
 pub unwrap-requires-in-Contracted : goal.unwrap-requires-in-Contracted
 unwrap-requires-in-Contracted g c =
@@ -78,4 +79,4 @@ unwrap-requires-in-Contracted g c =
 pub returns-in-Contracted : goal.returns-in-Contracted
 returns-in-Contracted g c =
     let w = works c.args.self.now.sheet.now g.met.K.Kind.lawful (g.met.S.Store.lawful c.args.self.now.store.now) c.args.self.now.fits in
-    down_sum w c.requires.sound c.requires.unfolds c.in-Contracted.is c.unwrap-in-Contracted.result c.rounded_of.ensures c.zero_code.ensures (some_value coordinates _ _ _ _ c.extended.ensures c.unwrap-in-Contracted.ensures) c.push-in-Contracted.ensures
+    down_sum w c.requires.sound c.requires.unfolds c.in-Contracted.is c.unwrap-in-Contracted.result c.rounded_of.ensures c.zero_code.ensures (some_value coordinates _ _ _ _ c.extended.ensures c.unwrap-in-Contracted.ensures) (on_top _ c.push-in-Contracted.ensures.items)
