@@ -13,6 +13,7 @@ use sheets::term::{Operation, Term};
 use stores::store::Store;
 
 // Where a dimension of a node comes from: a dimension of a variable, or one of an operand.
+// Named, and no ControlFlow, where both would be a bare pair of numbers.
 #[derive(Clone, Copy)]
 pub(crate) enum Source {
     Variable { variable: u16, d: usize },

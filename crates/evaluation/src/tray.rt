@@ -17,15 +17,10 @@ use stores::store::Store;
 pub fn reach_of<S: Store>(s: &S, v: usize) -> Option<Shape>
     ensures { option_map extents_of result ≡ (if has (S.Store.meaning s.now).shapes v then Some (pick (S.Store.meaning s.now).reach v) else None) }
 {
-    let Ok(rank) = s.rank(v) else {
-        return None;
-    };
+    let rank = s.rank(v).ok()?;
     let mut extents = [0u16; 4];
-    for d in 0..rank {
-        let Ok(extent) = s.rounded(v, d + 1) else {
-            return None;
-        };
-        extents[d] = extent;
+    for (d, extent) in extents[..rank].iter_mut().enumerate() {
+        *extent = s.rounded(v, d + 1).ok()?;
     }
     let rank = rank as u16;
     Shape::try_from(&Declaration { rank, extents }).ok()
