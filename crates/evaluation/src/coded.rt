@@ -29,6 +29,7 @@ pub(crate) fn zero_code<K: Kind>() -> u64
 fn apply<K: Kind>(operation: Operation, x: K, y: K) -> K
     ensures { result ≡ applied K.Kind.algebra (meant operation) x y }
 {
+    // a match: which operation it is stands in the sheet, as data
     match operation {
         Operation::Plus => x.sum(y),
         Operation::Minus => x.difference(y),

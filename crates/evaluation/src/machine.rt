@@ -23,6 +23,7 @@ fn resume<K: Kind>(stack: &mut Stack, frame: Frame, code: u64) -> Focus
     requires { Room frame (stack_of stack.old) }
     ensures { Resumed K.Kind.algebra (stack_of stack.old) code (stack_of stack.new) frame result }
 {
+    // frames are data: as boxed closures they would need the heap
     match frame {
         Frame::Left {
             operation,

@@ -20,6 +20,7 @@ fn perform<K: Kind, S: Store<Item = K>>(run: &mut Run<S>, call: Call<K>, tray: &
     ensures sheet { run.new.sheet ≡ run.old.sheet }
     ensures moves { Moves K.Kind.algebra (contents run.old.sheet) (call_of (length tray.old) call) (record { meaning = S.Store.meaning run.old.store; next = run.old.next }) (reply_of result) (record { meaning = S.Store.meaning run.new.store; next = run.new.next }) }
 {
+    // a match: the list of calls is data
     match call {
         Call::Fetch { variable, index } => {
             let x = fetch(run, variable, index.as_slice())?;
