@@ -1,7 +1,8 @@
 -- Numbers as big-endian bytes, there and back. Assumes nothing.
-use Rattle.std.specs.Prelude.{◌≡◌, ℕ, zero, suc, ◌+◌, ◌*◌, ◌/◌, ◌%◌, ◌^◌, ◌<◌, List, [], ◌∷◌, length, slice_index, refl}
-use Rattle.std.proofs.Common.{sym, ap, ◌∙◌, add-mul, mul_assoc, mul_comm, mod-lt, mod-eq_of_lt, div-add-mod', pow-suc, arith}
-use Rattle.std.proofs.Math.Nat.{mod-one}
+use Rattle.std.specs.Prelude.{◌≡◌, ℕ, zero, suc, ◌+◌, ◌*◌, ◌/◌, ◌%◌, ◌^◌, ◌<◌, ◌≤◌, List, [], ◌∷◌, length, drop, slice_index, slice_index_or, refl}
+use Rattle.std.proofs.Common.{sym, ap, ◌∙◌, add-mul, mul_assoc, mul_comm, mul-one, mod-lt, mod-eq_of_lt, div-add-mod', div-one, pow-suc, add-one, arith}
+use Rattle.std.proofs.Math.Nat.{mod-one, pow-le-pow_right}
+use Rattle.std.proofs.lemmas.List.{at_drop_more, drop_all}
 use Rattle.std.proofs.lemmas.Nat.{mul-add-lt, mod-mul-add}
 use Rattle.images.specs.Bytes.{number, bytes}
 
@@ -45,3 +46,29 @@ number_bytes (suc n) x =
 
 pub number_code : (x : ℕ) → x < 2 ^ 64 → number (bytes 8 x) ≡ x
 number_code x h = number_bytes 8 x ∙ mod-eq_of_lt h
+
+-- a loop's step at byte i: n is the number of the bytes so far
+module _ (bs : List ℕ) where
+  pub digits_more : (i n : ℕ) → i < length bs → n * 256 ^ length (drop i bs) + number (drop i bs) ≡ number bs → (n * 256 + slice_index bs i) * 256 ^ length (drop (i + 1) bs) + number (drop (i + 1) bs) ≡ number bs
+  digits_more i n h q =
+      let b = slice_index_or bs i 0 in let p = 256 ^ length (drop (i + 1) bs) in
+      let a = at_drop_more (λ t. n * 256 ^ length t + number t) bs i 0 h in
+      let r : n * 256 ^ suc (length (drop (i + 1) bs)) + (b * p + number (drop (i + 1) bs)) ≡ number bs = sym a ∙ q in
+      let s : n * (p * 256) ≡ n * 256 * p = omega (arith, ap (λ t. n * t) (mul_comm p 256), mul_assoc n 256 p) in
+      omega (arith, r, ap (λ t. n * t) (pow-suc 256 (length (drop (i + 1) bs))), s, add-mul (n * 256) b p)
+
+  pub digits_all : (i n : ℕ) → length bs ≤ i → n * 256 ^ length (drop i bs) + number (drop i bs) ≡ number bs → n ≡ number bs
+  digits_all i n h q =
+      let e = drop_all i bs h in
+      let r : n * 1 + 0 ≡ number bs = ap (λ t. n * 256 ^ length t + number t) (sym e) ∙ q in
+      omega (arith, mul-one n)
+
+pub digit_lt : (n b i : ℕ) → n < 256 ^ i → b < 256 → n * 256 + b < 256 ^ (i + 1)
+digit_lt n b i h k = rw (add-one i, pow-suc 256 i) (omega arith)
+
+pub eight_bytes : (i : ℕ) → i ≤ 8 → 256 ^ i ≤ 2 ^ 64
+eight_bytes i h = pow-le-pow_right {n = 256} (omega arith) h
+
+-- the eight bytes of a number, written out
+pub bytes_eight : (x : ℕ) → (x / 72057594037927936 % 256) ∷ (x / 281474976710656 % 256) ∷ (x / 1099511627776 % 256) ∷ (x / 4294967296 % 256) ∷ (x / 16777216 % 256) ∷ (x / 65536 % 256) ∷ (x / 256 % 256) ∷ (x % 256) ∷ [] ≡ bytes 8 x
+bytes_eight x = rw (div-one x)

@@ -9,8 +9,8 @@ use refusals::refusal::Refusal;
 #[derive(Clone, Copy)]
 pub struct VectorLength {
     pub(super) count: u16,
-    ghost low: { 1 ≤ count },
-    ghost high: { count ≤ 16 },
+    pub ghost low: { 1 ≤ count },
+    pub ghost high: { count ≤ 16 },
 }
 
 // The least and the greatest vector length.

@@ -1,9 +1,12 @@
 // Stores that hold one element everywhere.
-ghost use Rattle.std.specs.Prelude.{◌≡◌, replicate, IfOk};
+ghost use Rattle.std.specs.Prelude.{◌≡◌, replicate, IfOk, IfErr};
 ghost use Rattle.indices.specs.Places.{total};
-ghost use Rattle.refusals.specs.Refusals.{done};
+ghost use Rattle.refusals.specs.Refusals.{done, and_then};
 ghost use Rattle.shapes.specs.Shapes.{shapes_of, declared as declared_answer};
+ghost use Rattle.images.specs.Image.{image_answer};
 ghost use Rattle.images.specs.Filled.{filled as filled_with};
+ghost use Rattle.samples.specs.declared.layouts.NotMade.TheVariants.{Refused, OutOfMemory};
+ghost use Rattle.samples.specs.Refusing.{Refuses};
 
 use elements::kind::Kind;
 use images::filling::filled;
@@ -35,12 +38,16 @@ impl fmt::Display for NotMade {
 impl Error for NotMade {}
 
 impl From<Refusal> for NotMade {
+    ghost from_gives = { λ r e. e ≡ Refused r };
+
     fn from(refusal: Refusal) -> NotMade {
         NotMade::Refused(refusal)
     }
 }
 
 impl From<AllocError> for NotMade {
+    ghost from_gives = { λ _ e. e ≡ OutOfMemory };
+
     fn from(_failed: AllocError) -> NotMade {
         NotMade::OutOfMemory
     }
@@ -52,7 +59,8 @@ pub fn cells<K: Kind>(
     declared: &[Declaration],
     filler: K,
 ) -> Result<Cells<K>, NotMade>
-    ensures { IfOk result (λ c. (done (shapes_of c.table) ≡ declared_answer declared.now) × (c.elements.items ≡ replicate (total (shapes_of c.table)) filler)) }
+    ensures refuses { IfErr result (λ e. Refuses e (declared_answer declared.now)) }
+    ensures made { IfOk result (λ c. (done (shapes_of c.table) ≡ declared_answer declared.now) × (c.elements.items ≡ replicate (total (shapes_of c.table)) filler)) }
 {
     let table = Table::try_from(declared)?;
     let elements = repeated(heap, filler, table.total())?;
@@ -76,7 +84,8 @@ pub fn image<K: Kind>(
     declared: &[Declaration],
     filler: K,
 ) -> Result<Image<K>, NotMade>
-    ensures { IfOk result (λ c. (done (shapes_of c.table) ≡ declared_answer declared.now) × (c.bytes.items ≡ filled_with K.Kind.algebra (shapes_of c.table) filler)) }
+    ensures refuses { IfErr result (λ e. Refuses e (and_then (declared_answer declared.now) (λ ss. image_answer K.Kind.algebra declared.now (filled_with K.Kind.algebra ss filler)))) }
+    ensures made { IfOk result (λ c. (done (shapes_of c.table) ≡ declared_answer declared.now) × (c.bytes.items ≡ filled_with K.Kind.algebra (shapes_of c.table) filler)) }
 {
     let table = Table::try_from(declared)?;
     let bytes = filled(heap, &table, filler)?;
