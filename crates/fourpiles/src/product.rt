@@ -35,18 +35,11 @@ pub(super) fn plan<S: Store>(s: &S, a: usize, b: usize, c: usize) -> Option<Plan
 fn sides<S: Store>(s: &S, v: usize) -> Option<(u16, u16)>
     ensures { IfSome result (λ p. Sides (S.Store.meaning s.now).shapes v p.0 p.1) }
 {
-    let Ok(rank) = s.rank(v) else {
-        return None;
-    };
-    if rank != 2 {
+    if s.rank(v).ok()? != 2 {
         return None;
     }
-    let Ok(height) = s.extent(v, 1) else {
-        return None;
-    };
-    let Ok(width) = s.extent(v, 2) else {
-        return None;
-    };
+    let height = s.extent(v, 1).ok()?;
+    let width = s.extent(v, 2).ok()?;
     Some((height, width))
 }
 
