@@ -1,30 +1,14 @@
 -- Products of tables: entries that stand in a store, filled in step by step. Assumes nothing.
-use Rattle.std.proofs.Common.{◌≡◌, ℕ, zero, suc, ◌+◌, ◌<◌, ◌≤◌, true, ◌&&◌, ◌||◌, leb, ◌⊎◌, List, [], ◌∷◌, length, sym, refl, ap, ◌∙◌, subst, inl, inr, ⊎_elim, add-one, arith}
+use Rattle.std.proofs.Common.{◌≡◌, ℕ, zero, suc, ◌+◌, ◌<◌, ◌≤◌, true, ◌&&◌, ◌||◌, leb, ◌⊎◌, List, [], ◌∷◌, sym, refl, ap, ◌∙◌, subst, inl, inr, ⊎_elim, add-one, arith}
 use Rattle.std.proofs.lemmas.Bool.{and_from, le-leb, cond-true, or_left, cases_lt}
 use Rattle.elements.specs.Algebra.{Algebra, total, is_zero}
-use Rattle.indices.specs.Places.{has, pick, within, at1}
+use Rattle.indices.specs.Places.{has, pick, within}
 use Rattle.refusals.specs.Refusals.{done}
-use Rattle.shapes.specs.Shapes.{rank_answer, extent_answer}
-use Rattle.shapes.proofs.Asked.{done_since}
 use Rattle.stores.specs.Meaning.{Meaning, Lawful, Covers, Written, in_reach, read_answer, write_answer}
 use Rattle.fourpiles.specs.declared.plan.Plan.{Plan}
 use Rattle.fourpiles.specs.Product.{Sides, Conforms, entry, Filled, in_row, in_rows}
 
--- a table of rank 2, by its two extents
-two : (es : List ℕ) (h w : ℕ) → length es ≡ 2 → at1 es 1 ≡ h → at1 es 2 ≡ w → es ≡ h ∷ w ∷ []
-two [] h w n p q = absurd (omega arith)
-two (x ∷ []) h w n p q = absurd (omega arith)
-two (x ∷ y ∷ []) h w n p q = cc
-two (x ∷ y ∷ z ∷ es) h w n p q = absurd (omega arith)
-
-pub sides_asked : (ss : List (List ℕ)) (v n h w : ℕ) → done n ≡ rank_answer ss v → n ≡ 2 → done h ≡ extent_answer ss v 1 → done w ≡ extent_answer ss v 2 → Sides ss v h w
-sides_asked ss v n h w r e p q =
-    let a = done_since (has ss v) n (length (pick ss v)) 1 0 r in
-    let b = done_since (has ss v && (leb 1 1 && leb 1 (length (pick ss v)))) h (at1 (pick ss v) 1) 1 0 p in
-    let c = done_since (has ss v && (leb 1 2 && leb 2 (length (pick ss v)))) w (at1 (pick ss v) 2) 1 0 q in
-    record { known = a.0; extents = two (pick ss v) h w (sym a.1 ∙ e) (sym b.1) (sym c.1) }
-
--- a place of such a table is in shape and in reach
+-- a place of a table of rank 2 is in shape and in reach
 pub inside : (h w i j : ℕ) → 1 ≤ i → i ≤ h → 1 ≤ j → j ≤ w → within (h ∷ w ∷ []) (i ∷ j ∷ []) ≡ true
 inside h w i j a b c d =
     and_from (leb 1 i && leb i h) ((leb 1 j && leb j w) && true) (and_from (leb 1 i) (leb i h) (le-leb 1 i a) (le-leb i h b))
@@ -69,9 +53,6 @@ below a b = ⊎_elim inr inl (cases_lt b a)
 
 -- entries are filled in one after another
 module _ {E : Type 0} (g : Algebra E) (t : Plan) where
-  pub filled_none : (m : Meaning E) (some : ℕ → ℕ → Type 0) → ((i j : ℕ) → some i j → ⊥) → Filled g t some m m
-  filled_none m some none = record { shapes = refl; reach = refl; product = λ i j s. absurd (none i j s); others = λ w k r ne. refl }
-
   pub filled_like : (m n : Meaning E) (some more : ℕ → ℕ → Type 0) → ((i j : ℕ) → more i j → some i j) → ((i j : ℕ) → some i j → more i j) → Filled g t some m n → Filled g t more m n
   filled_like m n some more to from f = record {
     shapes = f.shapes;
