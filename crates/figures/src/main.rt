@@ -23,7 +23,12 @@ fn in_metres() -> Figures<Metres> {
         kind: "metres",
         a: [a, b, c, Metres::of(4), Metres::of(5), Metres::of(6)],
         b: [a, z, b, a, z, c],
-        product: [Metres::of(5), Metres::of(11), Metres::of(14), Metres::of(23)],
+        product: [
+            Metres::of(5),
+            Metres::of(11),
+            Metres::of(14),
+            Metres::of(23),
+        ],
         trace: Metres::of(28),
         filler: Metres::of(7),
     }
