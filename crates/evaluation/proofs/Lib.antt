@@ -1,4 +1,3 @@
-pub mod Answered
 pub mod Spans
 pub mod Filled
 pub mod Padded
@@ -7,4 +6,5 @@ pub mod Sources
 pub mod Stacks
 pub mod Steps
 pub mod Targets
+pub mod Unwrapped
 pub mod Working

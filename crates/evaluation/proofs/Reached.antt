@@ -1,11 +1,12 @@
 -- The rounded extents of a variable are a shape. Assumes nothing.
-use Rattle.std.proofs.Common.{◌≡◌, ℕ, zero, suc, ◌≤◌, true, ◌&&◌, eqb, leb, List, [], ◌∷◌, length, drop, Some, None, refl, ap, ◌∙◌, arith}
+use Rattle.std.proofs.Common.{◌≡◌, ℕ, zero, suc, ◌≤◌, true, ◌&&◌, eqb, leb, List, [], ◌∷◌, length, take, drop, Some, None, refl, ap, ◌∙◌, arith}
 use Rattle.std.proofs.lemmas.Bool.{and_parts, and_from, le-leb, cond-true}
+use Rattle.std.proofs.lemmas.List.{length-take-le}
 use Rattle.shapes.specs.declared.declaration.Declaration.{Declaration}
 use Rattle.indices.specs.Places.{pick, has, each, proper}
-use Rattle.refusals.specs.Refusals.{done, refused}
+use Rattle.refusals.specs.Refusals.{done}
 use Rattle.shapes.specs.Shapes.{zeros, valid, declared_extents, shape_declared, rank_answer}
-use Rattle.shapes.proofs.Asked.{done_same}
+use Rattle.shapes.proofs.Asked.{done_since}
 use Rattle.shapes.proofs.Extents.{proper_parts, proper_from, each_parts, valid_from}
 use Rattle.stores.specs.Meaning.{Meaning, Lawful, Covers}
 use Rattle.evaluation.proofs.Spans.{covers_length}
@@ -45,5 +46,17 @@ zeros_drop es zero h = h
 zeros_drop [] (suc n) h = h
 zeros_drop (e ∷ es) (suc n) h = zeros_drop es n (and_parts (eqb e 0) (zeros es) h).1
 
-pub rank_told : {E : Type 0} {z : E} (b : Meaning E) → Lawful z b → (v r : ℕ) → has b.shapes v ≡ true → done r ≡ rank_answer b.shapes v → r ≡ length (pick b.reach v)
-rank_told b law v r h e = done_same r (length (pick b.shapes v)) (rank_answer b.shapes v) e (cond-true (has b.shapes v) (done (length (pick b.shapes v))) (refused 1 0) h) ∙ reach_length b law v h
+-- what a store tells of a rank
+module _ {E : Type 0} {z : E} (b : Meaning E) (law : Lawful z b) (v : ℕ) {r : ℕ} (e : done r ≡ rank_answer b.shapes v) where
+  pub told_there : has b.shapes v ≡ true
+  told_there = (done_since (has b.shapes v) r (length (pick b.shapes v)) 1 0 e).0
+
+  pub told_rank : r ≡ length (pick b.reach v)
+  told_rank = (done_since (has b.shapes v) r (length (pick b.shapes v)) 1 0 e).1 ∙ reach_length b law v told_there
+
+  pub told_few : r ≤ 4
+  told_few = let l = reach_rank b law v told_there in let n = told_rank in omega arith
+
+  -- of four extents so many are set
+  pub told_taken : length {A = ℕ} (take r (0 ∷ 0 ∷ 0 ∷ 0 ∷ [])) ≡ length (pick b.reach v)
+  told_taken = length-take-le {A = ℕ} r (0 ∷ 0 ∷ 0 ∷ 0 ∷ []) told_few ∙ told_rank

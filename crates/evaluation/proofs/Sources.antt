@@ -1,7 +1,7 @@
 -- Where the dimensions of a node come from, by what it is made of, and how an index is held against them. Assumes nothing.
-use Rattle.std.proofs.Common.{◌≡◌, ℕ, ◌+◌, ◌-◌, ◌<◌, ◌≤◌, true, false, ◌&&◌, ltb, leb, List, [], ◌++◌, length, get_or, drop, sym, refl, ap, ◌∙◌, subst, arith, length-append}
+use Rattle.std.proofs.Common.{◌≡◌, ℕ, ◌+◌, ◌-◌, ◌<◌, ◌≤◌, true, false, ◌&&◌, ltb, leb, Some, None, Option, is_some, List, [], ◌++◌, length, get_or, drop, sym, refl, ap, ◌∙◌, subst, arith, length-append}
 use Rattle.std.proofs.lemmas.List.{drop_all}
-use Rattle.std.proofs.lemmas.Bool.{and_parts, and_from, leb-true, ltb-true, le-leb, cond-true}
+use Rattle.std.proofs.lemmas.Bool.{and_parts, and_from, leb-true, ltb-true, le-leb, cond-true, false≢true}
 use Rattle.indices.specs.Dimensions.{two_of, exchanged, removed}
 use Rattle.indices.specs.Places.{pick, at1, has, within}
 use Rattle.refusals.specs.Refusals.{done}
@@ -11,11 +11,12 @@ use Rattle.shapes.proofs.Tables.{at1_next, counted}
 use Rattle.indices.proofs.Within.{two_parts, length_exchanged, length_removed, at1_append_left, at1_append_right, at1_exchanged_first, at1_exchanged_second, at1_exchanged_other, at1_removed_before, at1_removed_between, at1_removed_after}
 use Rattle.sheets.specs.declared.term.Operation.{Operation}
 use Rattle.sheets.specs.declared.term.Operation.TheVariants.{Plus, Minus, Times, Over}
+use Rattle.sheets.specs.declared.term.Term.{Term}
 use Rattle.sheets.specs.declared.term.Term.TheVariants.{Variable, Outer, Pointwise, Turned, Contracted}
 use Rattle.sheets.specs.Language.{Expr, plus, minus, times, over, Typed, variable, outer, pointwise, turned, contracted}
 use Rattle.sheets.specs.Rules.{earlier, info_at}
 use Rattle.sheets.specs.Sheets.{Contents}
-use Rattle.sheets.specs.Terms.{expression_of, node_there, UnfoldsTo, Judged}
+use Rattle.sheets.specs.Terms.{expression_of, node_there, UnfoldsTo, Judged, Told}
 use Rattle.sheets.proofs.Typing.{same_type, variable_type, turned_type, contracted_type}
 use Rattle.stores.specs.Meaning.{Meaning, Lawful}
 use Rattle.evaluation.specs.declared.reach.Source.TheVariants as source
@@ -149,21 +150,21 @@ pub ranked : {E : Type 0} {z : E} (b : Meaning E) → Lawful z b → (c : Conten
 ranked b law c j q k t = spans_length b law (subst (λ ss. Typed ss (expression_of c.nodes k) (info_at c.infos k).extents) q (j.nodes k t).typed)
 
 -- a dimension followed down
-module _ (rs : List (List ℕ)) (c : Contents) (r : Ranked rs c) (n d : ℕ) where
-  pub follow_down : (k e a i : ℕ) → Follows rs c n d k e → Traced c k e (source.Operand a i) → Follows rs c n d a i
-  follow_down k e a i h t =
+module _ {rs : List (List ℕ)} {c : Contents} (r : Ranked rs c) {n d k e : ℕ} where
+  pub follow_down : {a i : ℕ} → Follows rs c n d k e → Traced c k e (source.Operand a i) → Follows rs c n d a i
+  follow_down {a} h t =
       let p = t.1 rs r h.low h.high in
       record { there = operand_there c k a h.there t.0; low = p.1; high = p.2; same = sym p.0 ∙ h.same }
 
-  pub follow_end : (k e v i : ℕ) → length c.shapes ≡ length rs → Follows rs c n d k e → Traced c k e (source.Variable v i) → extent_answer rs v i ≡ done (at1 (spans rs (expression_of c.nodes n)) d)
-  follow_end k e v i q h t =
+  pub follow_end : (v i : ℕ) → length c.shapes ≡ length rs → Follows rs c n d k e → Traced c k e (source.Variable v i) → extent_answer rs v i ≡ done (at1 (spans rs (expression_of c.nodes n)) d)
+  follow_end v i q h t =
       let p = t.1 rs r h.low h.high in
       cond-true (has rs v && (leb 1 i && leb i (length (pick rs v)))) _ _
       (and_from (has rs v) (leb 1 i && leb i (length (pick rs v))) (subst (λ m. (leb 1 v && leb v m) ≡ true) q t.0) (counted (length (pick rs v)) i p.1 p.2))
       ∙ ap done (sym p.0 ∙ h.same)
 
-  pub follow_small : (k e : ℕ) → Judged c → Follows rs c n d k e → e ≤ 64
-  follow_small k e j h = omega (arith, h.high, r k h.there, (j.nodes k h.there).rank)
+  pub follow_small : Judged c → Follows rs c n d k e → e ≤ 64
+  follow_small j h = omega (arith, h.high, r k h.there, (j.nodes k h.there).rank)
 
 -- an index against the extents, dimension by dimension
 module _ (es cs : List ℕ) (d : ℕ) where
@@ -179,3 +180,8 @@ module _ (es cs : List ℕ) (d : ℕ) where
 
   pub all_within : length es ≤ d → length cs ≤ d → within (drop d es) (drop d cs) ≡ true
   all_within l m = ap (λ t. within t (drop d cs)) (drop_all d es l) ∙ ap (within []) (drop_all d cs m)
+
+-- a node is there of which it is told what it is made of
+pub told_there : (c : Contents) (k : ℕ) (x : Option Term) → Told c k x → is_some x ≡ true → node_there c k ≡ true
+told_there c k (Some y) h e = h.0
+told_there c k None h e = absurd (false≢true e)

@@ -153,10 +153,6 @@ seen_self [] [] h = refl
 seen_self [] (c ∷ cs) h = absurd (false≢true h)
 seen_self (e ∷ es) i h = refl
 
-pub seen_scalar : (s i : List ℕ) → s ≡ [] → seen s i ≡ []
-seen_scalar [] i e = refl
-seen_scalar (x ∷ s) i e = absurd (let z : length (x ∷ s) ≡ 0 = ap length e in omega arith)
-
 -- it does so whether the limits are rounded or not
 pub seen_alike : (s t i : List ℕ) → length s ≡ length t → seen s i ≡ seen t i
 seen_alike [] [] i e = refl

@@ -9,6 +9,7 @@ use Rattle.indices.specs.Coordinates.{coordinates}
 use Rattle.indices.proofs.Within.{two_parts, within_length, within_parts, length_exchanged, length_removed, within_exchanged, within_inserted}
 use Rattle.sheets.specs.declared.term.Operation.{Operation}
 use Rattle.sheets.specs.declared.term.Operation.TheVariants.{Times}
+use Rattle.sheets.specs.declared.term.Term.{Term}
 use Rattle.sheets.specs.declared.term.Term.TheVariants.{Variable, Outer, Pointwise, Turned, Contracted}
 use Rattle.sheets.specs.Language.{Expr, Typed, variable, outer, pointwise, turned, contracted, depth}
 use Rattle.sheets.specs.Rules.{info_at, earlier, larger}
@@ -76,7 +77,7 @@ pub record Forks {E : Type 0} (t : Setting E) (used k : ℕ) (i : List ℕ) (op 
   pub right : Runs t (suc used) b ib
   pub takes : turns t k ≡ turns t a + turns t b + 3
 
-module _ {E : Type 0} (t : Setting E) (w : Works t) where
+module _ {E : Type 0} {t : Setting E} (w : Works t) where
   -- the type that the verdict found, over the store's shapes
   typed_at : (k : ℕ) → node_there t.sheet k ≡ true → Typed t.meaning.shapes (expr t k) (info_at t.sheet.infos k).extents
   typed_at k h = subst (λ ss. Typed ss (expr t k) (info_at t.sheet.infos k).extents) w.fits (w.judged.nodes k h).typed
@@ -84,7 +85,8 @@ module _ {E : Type 0} (t : Setting E) (w : Works t) where
   pub rank_at : (k : ℕ) → node_there t.sheet k ≡ true → length (info_at t.sheet.infos k).extents ≡ length (goes t k)
   rank_at k h = spans_length t.meaning w.lawful (typed_at k h)
 
-  module _ (fs : List Frame) (k : ℕ) (at : Index) (h : Sound t fs (Down k at)) where
+  -- down into a node
+  module _ {fs : List Frame} {k : ℕ} {at : Index} (h : Sound t fs (Down k at)) where
     typed_as : (e : Expr) → expr t k ≡ e → Typed t.meaning.shapes e (info_at t.sheet.infos k).extents
     typed_as e u = subst (λ x. Typed t.meaning.shapes x (info_at t.sheet.infos k).extents) u (typed_at k h.focus.there)
 
@@ -102,192 +104,203 @@ module _ {E : Type 0} (t : Setting E) (w : Works t) where
         let lo = h.focus.low in
         record { there = earlier_there t j k e h.focus.there; low = omega arith; reached = r }
 
-    pub room : 1 < depth (expr t k) → length fs < 15
-    room d = let lo = h.focus.low in omega arith
+    pub fork_room : {op : Operation} {a b : ℕ} {ia ib : List ℕ} → Forks t (length fs) k (coordinates at) op a b ia ib → length fs < 15
+    fork_room {a = a} f = let lo = f.left.low in let d = depth_one (expr t a) in omega arith
 
-    -- a variable
-    pub variable_reached : (v : ℕ) → UnfoldsTo t.sheet k (Variable v) → in_reach t.meaning v (coordinates at) ≡ true
-    unfolding spans
-    variable_reached v u =
-        and_from (has t.meaning.shapes v) (within (pick t.meaning.reach v) (coordinates at)) (variable_type (typed_as (variable v) u)).0 (reached_as (variable v) u)
-
-    pub down_variable : (v c : ℕ) → UnfoldsTo t.sheet k (Variable v) → decoded t.algebra c ≡ t.meaning.at v (coordinates at) → Stepped t fs (Down k at) fs (Up c)
-    unfolding whole load value work
-    down_variable v c u d =
-        let s = turns_as (variable v) u in
-        record {
-          sound = record { frames = h.frames; focus = tt };
-          same = ap (plug t fs) (d ∙ sym (worth_as (variable v) u));
-          less = omega arith;
-        }
-
-    -- two operands
-    pub outer_forks : (a b : ℕ) → UnfoldsTo t.sheet k (Outer a b) → Forks t (length fs) k (coordinates at) Times a b (take (length (goes t a)) (coordinates at)) (drop (length (goes t a)) (coordinates at))
-    unfolding spans value work
-    outer_forks a b u =
-        let e = outer (expr t a) (expr t b) in
-        let p = within_parts (goes t a) (goes t b) (coordinates at) (reached_as e u.2) in
-        let d : depth (expr t k) ≡ larger (depth (expr t a)) (depth (expr t b)) + 1 = ap depth u.2 in
-        let x = larger_left (depth (expr t a)) (depth (expr t b)) in
-        let y = larger_right (depth (expr t a)) (depth (expr t b)) in
-        record {
-          is = worth_as e u.2;
-          left = below a u.0 (omega arith) (take (length (goes t a)) (coordinates at)) p.0;
-          right = below b u.1 (omega arith) (drop (length (goes t a)) (coordinates at)) p.1;
-          takes = turns_as e u.2;
-        }
-
-    pub pointwise_forks : (op : Operation) (a b : ℕ) → UnfoldsTo t.sheet k (Pointwise op a b) → Forks t (length fs) k (coordinates at) op a b (seen (goes t a) (coordinates at)) (seen (goes t b) (coordinates at))
-    unfolding spans value work
-    pointwise_forks op a b u =
-        let e = pointwise (meant op) (expr t a) (expr t b) in
-        let p = operands_reached t.meaning w.lawful (typed_as e u.2) (coordinates at) (reached_as e u.2) in
-        let d : depth (expr t k) ≡ larger (depth (expr t a)) (depth (expr t b)) + 1 = ap depth u.2 in
-        let x = larger_left (depth (expr t a)) (depth (expr t b)) in
-        let y = larger_right (depth (expr t a)) (depth (expr t b)) in
-        record {
-          is = worth_as e u.2;
-          left = below a u.0 (omega arith) (seen (goes t a) (coordinates at)) p.0;
-          right = below b u.1 (omega arith) (seen (goes t b) (coordinates at)) p.1;
-          takes = turns_as e u.2;
-        }
-
-    pub fork_room : (op : Operation) (a b : ℕ) (ia ib : List ℕ) → Forks t (length fs) k (coordinates at) op a b ia ib → length fs < 15
-    fork_room op a b ia ib f = let lo = f.left.low in let d = depth_one (expr t a) in omega arith
-
-    pub down_fork : (op : Operation) (a b : ℕ) (ia ib : List ℕ) (x y : Index) (gs : List Frame) → Forks t (length fs) k (coordinates at) op a b ia ib → coordinates x ≡ ia → coordinates y ≡ ib → gs ≡ Left op b y ∷ fs → Stepped t fs (Down k at) gs (Down a x)
+    pub down_fork : {op : Operation} {a b : ℕ} {ia ib : List ℕ} (left right : Index) {gs : List Frame} → Forks t (length fs) k (coordinates at) op a b ia ib → coordinates left ≡ ia → coordinates right ≡ ib → gs ≡ Left op b right ∷ fs → Stepped t fs (Down k at) gs (Down a left)
     unfolding whole load plug rest Framed
-    down_fork op a b ia ib x y gs f p q g =
+    down_fork {op} {a} {b} {ia} {ib} left right f p q g =
         let s = f.takes in
-        subst (λ z. Stepped t fs (Down k at) z (Down a x)) (sym g)
+        subst (λ z. Stepped t fs (Down k at) z (Down a left)) (sym g)
         (record {
           sound = record {
             frames = (subst (λ i. Runs t (suc (length fs)) b i) (sym q) f.right, h.frames);
             focus = subst (λ i. Runs t (suc (length fs)) a i) (sym p) f.left;
           };
-          same = ap (plug t fs) (ap (λ i. applied t.algebra (meant op) (worth t a i) (worth t b (coordinates y))) p ∙ ap (λ i. applied t.algebra (meant op) (worth t a ia) (worth t b i)) q ∙ sym f.is);
+          same = ap (plug t fs) (ap (λ i. applied t.algebra (meant op) (worth t a i) (worth t b (coordinates right))) p ∙ ap (λ i. applied t.algebra (meant op) (worth t a ia) (worth t b i)) q ∙ sym f.is);
           less = omega arith;
         })
 
-    -- dimensions exchanged
-    module _ (a m n : ℕ) (u : UnfoldsTo t.sheet k (Turned a m n)) where
-      turned_two : two_of m n (length (goes t a)) ≡ true
-      turned_two =
-          let y = turned_type (typed_as (turned m n (expr t a)) u.1) in
-          subst (λ j. two_of m n j ≡ true) (spans_length t.meaning w.lawful y.1) y.2
+    -- one that is made of x
+    module _ {x : Term} (made : UnfoldsTo t.sheet k x) where
+      unfolds_as : {y : Term} → x ≡ y → UnfoldsTo t.sheet k y
+      unfolds_as is = subst (UnfoldsTo t.sheet k) is made
 
-      pub turned_fits : two_of m n (length (coordinates at)) ≡ true
-      unfolding spans
-      turned_fits =
-          let l = within_length (exchanged m n (goes t a)) (coordinates at) (reached_as (turned m n (expr t a)) u.1) in
-          subst (λ j. two_of m n j ≡ true) (sym (length_exchanged m n (goes t a)) ∙ l) turned_two
+      -- a variable
+      module _ {v : ℕ} (is : x ≡ Variable v) where
+        variable_is : expr t k ≡ variable v
+        variable_is = unfolds_as is
 
-      pub down_turned : (x : Index) → coordinates x ≡ exchanged m n (coordinates at) → Stepped t fs (Down k at) fs (Down a x)
-      unfolding whole load spans value work
-      down_turned x q =
-          let e = turned m n (expr t a) in
-          let s = turns_as e u.1 in
-          let d : depth (expr t k) ≡ depth (expr t a) + 1 = ap depth u.1 in
-          let lo = h.focus.low in
+        pub variable_reached : in_reach t.meaning v (coordinates at) ≡ true
+        unfolding spans
+        variable_reached =
+            and_from (has t.meaning.shapes v) (within (pick t.meaning.reach v) (coordinates at)) (variable_type (typed_as (variable v) variable_is)).0 (reached_as (variable v) variable_is)
+
+        pub down_variable : (c : ℕ) → decoded t.algebra c ≡ t.meaning.at v (coordinates at) → Stepped t fs (Down k at) fs (Up c)
+        unfolding whole load value work
+        down_variable c d =
+            let s = turns_as (variable v) variable_is in
+            record {
+              sound = record { frames = h.frames; focus = tt };
+              same = ap (plug t fs) (d ∙ sym (worth_as (variable v) variable_is));
+              less = omega arith;
+            }
+
+      -- two operands
+      pub outer_forks : {a b : ℕ} → x ≡ Outer a b → Forks t (length fs) k (coordinates at) Times a b (take (length (goes t a)) (coordinates at)) (drop (length (goes t a)) (coordinates at))
+      unfolding spans value work
+      outer_forks {a} {b} is =
+          let u = unfolds_as is in
+          let e = outer (expr t a) (expr t b) in
+          let p = within_parts (goes t a) (goes t b) (coordinates at) (reached_as e u.2) in
+          let d : depth (expr t k) ≡ larger (depth (expr t a)) (depth (expr t b)) + 1 = ap depth u.2 in
+          let l = larger_left (depth (expr t a)) (depth (expr t b)) in
+          let r = larger_right (depth (expr t a)) (depth (expr t b)) in
           record {
-            sound = record {
-              frames = h.frames;
-              focus = record {
-                there = earlier_there t a k u.0 h.focus.there;
-                low = omega arith;
-                reached = ap (within (goes t a)) q ∙ within_exchanged m n (goes t a) (coordinates at) turned_two (reached_as e u.1);
-              };
-            };
-            same = ap (plug t fs) (ap (worth t a) q ∙ sym (worth_as e u.1));
-            less = omega arith;
+            is = worth_as e u.2;
+            left = below a u.0 (omega arith) (take (length (goes t a)) (coordinates at)) p.0;
+            right = below b u.1 (omega arith) (drop (length (goes t a)) (coordinates at)) p.1;
+            takes = turns_as e u.2;
           }
 
-    -- dimensions contracted
-    module _ (a m n : ℕ) (u : UnfoldsTo t.sheet k (Contracted a m n)) where
-      contracted_there : node_there t.sheet a ≡ true
-      contracted_there = earlier_there t a k u.0 h.focus.there
+      pub pointwise_forks : {op : Operation} {a b : ℕ} → x ≡ Pointwise op a b → Forks t (length fs) k (coordinates at) op a b (seen (goes t a) (coordinates at)) (seen (goes t b) (coordinates at))
+      unfolding spans value work
+      pointwise_forks {op} {a} {b} is =
+          let u = unfolds_as is in
+          let e = pointwise (meant op) (expr t a) (expr t b) in
+          let p = operands_reached t.meaning w.lawful (typed_as e u.2) (coordinates at) (reached_as e u.2) in
+          let d : depth (expr t k) ≡ larger (depth (expr t a)) (depth (expr t b)) + 1 = ap depth u.2 in
+          let l = larger_left (depth (expr t a)) (depth (expr t b)) in
+          let r = larger_right (depth (expr t a)) (depth (expr t b)) in
+          record {
+            is = worth_as e u.2;
+            left = below a u.0 (omega arith) (seen (goes t a) (coordinates at)) p.0;
+            right = below b u.1 (omega arith) (seen (goes t b) (coordinates at)) p.1;
+            takes = turns_as e u.2;
+          }
 
-      pub sum_there : node_there t.sheet a ≡ true
-      sum_there = contracted_there
+      -- dimensions exchanged
+      module _ {a m n : ℕ} (is : x ≡ Turned a m n) where
+        turned_is : UnfoldsTo t.sheet k (Turned a m n)
+        turned_is = unfolds_as is
 
-      contracted_two : two_of m n (length (goes t a)) ≡ true
-      contracted_two =
-          let y = contracted_type (typed_as (contracted m n (expr t a)) u.1) in
-          two_reached t.meaning w.lawful m n y.1 y.2
+        turned_two : two_of m n (length (goes t a)) ≡ true
+        turned_two =
+            let y = turned_type (typed_as (turned m n (expr t a)) turned_is.1) in
+            subst (λ j. two_of m n j ≡ true) (spans_length t.meaning w.lawful y.1) y.2
 
-      contracted_pair : at1 (goes t a) m ≡ at1 (goes t a) n
-      contracted_pair =
-          let y = contracted_type (typed_as (contracted m n (expr t a)) u.1) in
-          pair_reached t.meaning w.lawful m n y.1 y.2 y.3
+        pub turned_fits : two_of m n (length (coordinates at)) ≡ true
+        unfolding spans
+        turned_fits =
+            let l = within_length (exchanged m n (goes t a)) (coordinates at) (reached_as (turned m n (expr t a)) turned_is.1) in
+            subst (λ j. two_of m n j ≡ true) (sym (length_exchanged m n (goes t a)) ∙ l) turned_two
 
-      pub sum_dimension : (1 ≤ m) × (m ≤ length (goes t a))
-      sum_dimension = let p = two_parts m n (length (goes t a)) contracted_two in (p.0, omega (arith, p.1, p.2))
+        pub down_turned : (inner : Index) → coordinates inner ≡ exchanged m n (coordinates at) → Stepped t fs (Down k at) fs (Down a inner)
+        unfolding whole load spans value work
+        down_turned inner q =
+            let e = turned m n (expr t a) in
+            let s = turns_as e turned_is.1 in
+            let d : depth (expr t k) ≡ depth (expr t a) + 1 = ap depth turned_is.1 in
+            let lo = h.focus.low in
+            record {
+              sound = record {
+                frames = h.frames;
+                focus = record {
+                  there = earlier_there t a k turned_is.0 h.focus.there;
+                  low = omega arith;
+                  reached = ap (within (goes t a)) q ∙ within_exchanged m n (goes t a) (coordinates at) turned_two (reached_as e turned_is.1);
+                };
+              };
+              same = ap (plug t fs) (ap (worth t a) q ∙ sym (worth_as e turned_is.1));
+              less = omega arith;
+            }
 
-      contracted_length : length (goes t a) ≡ length (coordinates at) + 2
-      unfolding spans
-      contracted_length =
-          let l = within_length (removed m n (goes t a)) (coordinates at) (reached_as (contracted m n (expr t a)) u.1) in
-          let r = length_removed m n (goes t a) contracted_two in
-          omega arith
+      -- dimensions contracted
+      module _ {a m n : ℕ} (is : x ≡ Contracted a m n) where
+        contracted_is : UnfoldsTo t.sheet k (Contracted a m n)
+        contracted_is = unfolds_as is
 
-      pub sum_extendable : extendable m n (coordinates at) ≡ true
-      sum_extendable =
-          let l = contracted_length in
-          let r = rank_at a contracted_there in
-          let b = (w.judged.nodes a contracted_there).rank in
-          and_from (two_of m n (length (coordinates at) + 2)) (leb (length (coordinates at) + 2) 8) (subst (λ j. two_of m n j ≡ true) l contracted_two) (le-leb (length (coordinates at) + 2) 8 (omega arith))
+        pub sum_there : node_there t.sheet a ≡ true
+        sum_there = earlier_there t a k contracted_is.0 h.focus.there
 
-      sum_limit : 1 ≤ at1 (goes t a) m
-      sum_limit =
-          let y = typed_at a contracted_there in
-          let r = rank_at a contracted_there in
-          let p = sum_dimension in
-          let f = p.0 in
-          let g = p.1 in
-          let b = limit_bounds t.meaning w.lawful y m f (omega arith) in
-          let c = b.0 in
-          let d = b.1 in
-          omega arith
+        contracted_two : two_of m n (length (goes t a)) ≡ true
+        contracted_two =
+            let y = contracted_type (typed_as (contracted m n (expr t a)) contracted_is.1) in
+            two_reached t.meaning w.lawful m n y.1 y.2
 
-      sum_runs : (j : ℕ) → 1 ≤ j → j ≤ at1 (goes t a) m → Runs t (suc (length fs)) a (inserted m n j (coordinates at))
-      unfolding spans
-      sum_runs j p q =
-          let d : depth (expr t k) ≡ depth (expr t a) + 1 = ap depth u.1 in
-          below a u.0 (omega arith) (inserted m n j (coordinates at))
-          (within_inserted m n j (goes t a) (coordinates at) contracted_two contracted_pair p q (reached_as (contracted m n (expr t a)) u.1))
+        contracted_pair : at1 (goes t a) m ≡ at1 (goes t a) n
+        contracted_pair =
+            let y = contracted_type (typed_as (contracted m n (expr t a)) contracted_is.1) in
+            pair_reached t.meaning w.lawful m n y.1 y.2 y.3
 
-      pub sum_room : length fs < 15
-      sum_room = let r = (sum_runs 1 (omega arith) sum_limit).low in let d = depth_one (expr t a) in omega arith
+        pub sum_dimension : (1 ≤ m) × (m ≤ length (goes t a))
+        sum_dimension = let p = two_parts m n (length (goes t a)) contracted_two in (p.0, omega (arith, p.1, p.2))
 
-      pub down_sum : (limit c : ℕ) (inner : Index) (gs : List Frame) → limit ≡ at1 (goes t a) m → decoded t.algebra c ≡ t.algebra.zero → coordinates inner ≡ inserted m n 1 (coordinates at) → gs ≡ Sum a at m n 1 limit c ∷ fs → Stepped t fs (Down k at) gs (Down a inner)
-      unfolding whole load spans value work plug rest Framed
-      down_sum limit c inner gs z d q g =
-          let e = contracted m n (expr t a) in
-          let o : 1 ≤ limit = let y = sum_limit in omega arith in
-          let s : turns t k ≡ limit * (turns t a + 1) + 2 = turns_as e u.1 ∙ ap (λ j. j * (turns t a + 1) + 2) (sym z) in
-          let p : limit ≡ suc (limit - 1) = omega arith in
-          let y : limit * (turns t a + 1) ≡ (limit - 1) * (turns t a + 1) + (turns t a + 1) = ap (λ j. j * (turns t a + 1)) p ∙ suc-mul (limit - 1) (turns t a + 1) in
-          let f : ℕ → E = λ j. worth t a (inserted m n j (coordinates at)) in
-          let v : limit - 1 + 1 ≡ at1 (goes t a) m = omega arith in
-          subst (λ x. Stepped t fs (Down k at) x (Down a inner)) (sym g)
-          (record {
-            sound = record {
-              frames = (sum_extendable, (λ j x r. sum_runs j x (omega arith)), o, h.frames);
-              focus = subst (λ i. Runs t (suc (length fs)) a i) (sym q) (sum_runs 1 (omega arith) sum_limit);
-            };
-            same =
-                ap (plug t fs)
-                (ap (λ i. onward t.algebra f 2 (limit - 1) (t.algebra.plus (decoded t.algebra c) (worth t a i))) q
-                ∙ ap (λ x. onward t.algebra f 2 (limit - 1) (t.algebra.plus x (f 1))) d
-                ∙ onward_total t.algebra f (limit - 1) 1
-                ∙ ap (total t.algebra f) v
-                ∙ sym (worth_as e u.1));
-            less = omega arith;
-          })
+        contracted_length : length (goes t a) ≡ length (coordinates at) + 2
+        unfolding spans
+        contracted_length =
+            let l = within_length (removed m n (goes t a)) (coordinates at) (reached_as (contracted m n (expr t a)) contracted_is.1) in
+            let r = length_removed m n (goes t a) contracted_two in
+            omega arith
+
+        pub sum_extendable : extendable m n (coordinates at) ≡ true
+        sum_extendable =
+            let l = contracted_length in
+            let r = rank_at a sum_there in
+            let b = (w.judged.nodes a sum_there).rank in
+            and_from (two_of m n (length (coordinates at) + 2)) (leb (length (coordinates at) + 2) 8) (subst (λ j. two_of m n j ≡ true) l contracted_two) (le-leb (length (coordinates at) + 2) 8 (omega arith))
+
+        sum_limit : 1 ≤ at1 (goes t a) m
+        sum_limit =
+            let y = typed_at a sum_there in
+            let r = rank_at a sum_there in
+            let p = sum_dimension in
+            let f = p.0 in
+            let g = p.1 in
+            let b = limit_bounds t.meaning w.lawful y m f (omega arith) in
+            let c = b.0 in
+            let d = b.1 in
+            omega arith
+
+        sum_runs : (j : ℕ) → 1 ≤ j → j ≤ at1 (goes t a) m → Runs t (suc (length fs)) a (inserted m n j (coordinates at))
+        unfolding spans
+        sum_runs j p q =
+            let d : depth (expr t k) ≡ depth (expr t a) + 1 = ap depth contracted_is.1 in
+            below a contracted_is.0 (omega arith) (inserted m n j (coordinates at))
+            (within_inserted m n j (goes t a) (coordinates at) contracted_two contracted_pair p q (reached_as (contracted m n (expr t a)) contracted_is.1))
+
+        pub sum_room : length fs < 15
+        sum_room = let r = (sum_runs 1 (omega arith) sum_limit).low in let d = depth_one (expr t a) in omega arith
+
+        pub down_sum : {limit c : ℕ} (inner : Index) {gs : List Frame} → limit ≡ at1 (goes t a) m → decoded t.algebra c ≡ t.algebra.zero → coordinates inner ≡ inserted m n 1 (coordinates at) → gs ≡ Sum a at m n 1 limit c ∷ fs → Stepped t fs (Down k at) gs (Down a inner)
+        unfolding whole load spans value work plug rest Framed
+        down_sum {limit} {c} inner {gs} z d q g =
+            let e = contracted m n (expr t a) in
+            let o : 1 ≤ limit = let y = sum_limit in omega arith in
+            let s : turns t k ≡ limit * (turns t a + 1) + 2 = turns_as e contracted_is.1 ∙ ap (λ j. j * (turns t a + 1) + 2) (sym z) in
+            let p : limit ≡ suc (limit - 1) = omega arith in
+            let y : limit * (turns t a + 1) ≡ (limit - 1) * (turns t a + 1) + (turns t a + 1) = ap (λ j. j * (turns t a + 1)) p ∙ suc-mul (limit - 1) (turns t a + 1) in
+            let f : ℕ → E = λ j. worth t a (inserted m n j (coordinates at)) in
+            let v : limit - 1 + 1 ≡ at1 (goes t a) m = omega arith in
+            subst (λ z. Stepped t fs (Down k at) z (Down a inner)) (sym g)
+            (record {
+              sound = record {
+                frames = (sum_extendable, (λ j x r. sum_runs j x (omega arith)), o, h.frames);
+                focus = subst (λ i. Runs t (suc (length fs)) a i) (sym q) (sum_runs 1 (omega arith) sum_limit);
+              };
+              same =
+                  ap (plug t fs)
+                  (ap (λ i. onward t.algebra f 2 (limit - 1) (t.algebra.plus (decoded t.algebra c) (worth t a i))) q
+                  ∙ ap (λ x. onward t.algebra f 2 (limit - 1) (t.algebra.plus x (f 1))) d
+                  ∙ onward_total t.algebra f (limit - 1) 1
+                  ∙ ap (total t.algebra f) v
+                  ∙ sym (worth_as e contracted_is.1));
+              less = omega arith;
+            })
 
 -- a frame that is resumed
 module _ {E : Type 0} (t : Setting E) (fs : List Frame) (c : ℕ) where
-  pub frame_room : (f : Frame) → Sound t (f ∷ fs) (Up c) → Room f fs
+  frame_room : (f : Frame) → Sound t (f ∷ fs) (Up c) → Room f fs
   unfolding Framed
   frame_room (Left op right at) h = let r = h.frames.0.low in let d = depth_one (expr t right) in omega arith
   frame_room (Right op left) h = tt
@@ -337,7 +350,7 @@ module _ {E : Type 0} (t : Setting E) (fs : List Frame) (c : ℕ) where
           less = omega arith;
         })
 
-  pub resumed_steps : (f : Frame) (gs : List Frame) (x : Focus) → Sound t (f ∷ fs) (Up c) → Resumed t.algebra fs c gs f x → Stepped t (f ∷ fs) (Up c) gs x
+  resumed_steps : (f : Frame) (gs : List Frame) (x : Focus) → Sound t (f ∷ fs) (Up c) → Resumed t.algebra fs c gs f x → Stepped t (f ∷ fs) (Up c) gs x
   resumed_steps f gs x h r = by f h r
     where
       on_top : {y : Focus} (e f : Frame) → f ≡ e → (Sound t (e ∷ fs) (Up c) → Stepped t (e ∷ fs) (Up c) gs y) → Sound t (f ∷ fs) (Up c) → Stepped t (f ∷ fs) (Up c) gs y
@@ -349,12 +362,25 @@ module _ {E : Type 0} (t : Setting E) (fs : List Frame) (c : ℕ) where
       by f h (to_next {k} {m} {n} {l} {limit} {sum} {sum'} {at} {inner} e p q d g) = on_top (Sum k at m n l limit sum) f e (λ o. next_steps k m n l limit sum sum' at gs o d inner p q g) h
       by f h (to_end {k} {m} {n} {l} {limit} {sum} {sum'} {at} e p d g) = on_top (Sum k at m n l limit sum) f e (λ o. end_steps k m n l limit sum sum' at gs o d p g) h
 
+-- on with a value
+module _ {E : Type 0} {t : Setting E} {hs : List Frame} {x : Focus} {c : ℕ} (h : Sound t hs x) (is : x ≡ Up c) where
+  module _ {f : Frame} {fs : List Frame} (e : hs ≡ f ∷ fs) where
+    popped : Sound t (f ∷ fs) (Up c)
+    popped = subst (λ gs. Sound t gs (Up c)) e (subst (Sound t hs) is h)
+
+    pub popped_room : Room f fs
+    popped_room = frame_room t fs c f popped
+
+    pub popped_steps : {gs : List Frame} {y : Focus} → Resumed t.algebra fs c gs f y → Stepped t hs x gs y
+    popped_steps {gs} {y} r =
+        subst (λ z. Stepped t hs z gs y) (sym is) (subst (λ z. Stepped t z (Up c) gs y) (sym e) (resumed_steps t fs c f gs y popped r))
+
+  pub whole_up : hs ≡ [] → decoded t.algebra c ≡ whole t hs x
+  unfolding whole plug
+  whole_up e = ap (λ z. plug t z (decoded t.algebra c)) (sym e) ∙ ap (whole t hs) (sym is)
+
 -- with no frames
 module _ {E : Type 0} (t : Setting E) (fs : List Frame) (e : fs ≡ []) where
-  pub whole_up : (c : ℕ) → decoded t.algebra c ≡ whole t fs (Up c)
-  unfolding whole plug
-  whole_up c = ap (λ x. plug t x (decoded t.algebra c)) (sym e)
-
   pub whole_down : (k : ℕ) (at : Index) → whole t fs (Down k at) ≡ worth t k (coordinates at)
   unfolding whole plug
   whole_down k at = ap (λ x. plug t x (worth t k (coordinates at))) e

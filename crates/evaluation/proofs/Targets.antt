@@ -1,7 +1,9 @@
 -- What a statement's variable and node have to do with each other over a store. Assumes nothing.
-use Rattle.std.proofs.Common.{◌≡◌, ℕ, true, ◌&&◌, leb, length, subst}
+use Rattle.std.proofs.Common.{◌≡◌, ℕ, true, cond, ◌&&◌, leb, length, Some, None, sym, ap, ◌∙◌, subst}
 use Rattle.std.proofs.lemmas.Bool.{and_parts, leb-true}
 use Rattle.indices.specs.Places.{pick, has}
+use Rattle.shapes.proofs.Asked.{some_since}
+use Rattle.sheets.specs.declared.node.Statement.{Statement}
 use Rattle.sheets.specs.Language.{Typed, of_variable}
 use Rattle.sheets.specs.Sheets.{Contents}
 use Rattle.sheets.specs.Terms.{expression_of, node_there, StatementMeans, Judged}
@@ -29,3 +31,20 @@ module _ {E : Type 0} {z : E} (b : Meaning E) (law : Lawful z b) (c : Contents) 
   target_reach =
       let v = (statement_of c n).variable in
       spans_same b law target_typed (of_variable {v = v} target_known)
+
+-- what is known of a statement that the sheet gave
+module _ {E : Type 0} {z : E} (b : Meaning E) (law : Lawful z b) (c : Contents) (judged : Judged c) (fit : c.shapes ≡ b.shapes) (n : ℕ) (st : Statement) (e : Some st ≡ cond (leb 1 n && leb n (length c.statements)) (Some (statement_of c n)) None) where
+  pub given_one : (leb 1 n && leb n (length c.statements)) ≡ true
+  given_one = (some_since (leb 1 n && leb n (length c.statements)) st (statement_of c n) e).0
+
+  pub given_is : st ≡ statement_of c n
+  given_is = (some_since (leb 1 n && leb n (length c.statements)) st (statement_of c n) e).1
+
+  pub given_known : has b.shapes st.variable ≡ true
+  given_known = ap (λ t. has b.shapes t.variable) given_is ∙ target_known b law c judged fit n given_one
+
+  pub given_there : node_there c st.node ≡ true
+  given_there = ap (λ t. node_there c t.node) given_is ∙ target_there b law c judged fit n given_one
+
+  pub given_reach : node_reach b c st.node ≡ pick b.reach st.variable
+  given_reach = ap (λ t. node_reach b c t.node) given_is ∙ target_reach b law c judged fit n given_one ∙ ap (λ t. pick b.reach t.variable) (sym given_is)

@@ -7,5 +7,5 @@ use Rattle.sheets.proofs.Judged.{judged}
 use Rattle.stores.specs.Meaning.{Meaning, Lawful}
 use Rattle.evaluation.specs.Machine.{setting, Works}
 
-pub works : {E : Type 0} (a : Algebra E) (b : Meaning E) (s : CheckedSheet) → Laws a → Lawful a.zero b → (contents s).shapes ≡ b.shapes → Works (setting a b (contents s))
-works a b s laws law e = record { laws = laws; lawful = law; judged = judged s; fits = e }
+pub works : {E : Type 0} {a : Algebra E} {b : Meaning E} (s : CheckedSheet) → Laws a → Lawful a.zero b → (contents s).shapes ≡ b.shapes → Works (setting a b (contents s))
+works s laws law e = record { laws = laws; lawful = law; judged = judged s; fits = e }

@@ -13,14 +13,16 @@
 --   Stepped      one turn: what holds still holds, the whole has the same value, and less is left
 --   Room         what a frame needs to be resumed
 --   Resumed      what a frame makes of the value that it waited for
-use Rattle.std.specs.Prelude.{◌≡◌, ℕ, zero, suc, ◌+◌, ◌-◌, ◌*◌, ◌<◌, ◌≤◌, Bool, true, ◌&&◌, List, [], ◌∷◌, length, Some, None, Option, nat_le, slice_index_or}
+use Rattle.std.specs.Prelude.{◌≡◌, ℕ, zero, suc, ◌+◌, ◌-◌, ◌*◌, ◌<◌, ◌≤◌, Bool, true, ◌&&◌, List, [], ◌∷◌, length, Some, None, Option, nat_le, reverse}
+use Rattle.std.specs.declared.ops.ControlFlow.{ControlFlow}
+use Rattle.std.specs.declared.ops.ControlFlow.TheVariants.{Continue, Break}
+use Rattle.arrayvec.specs.ArrayVec.{ArrayVec}
 use Rattle.elements.specs.Algebra.{Algebra, Laws}
 use Rattle.indices.specs.declared.index.Index.{Index}
 use Rattle.indices.specs.Dimensions.{two_of, inserted}
 use Rattle.indices.specs.Places.{at1, within}
 use Rattle.indices.specs.Coordinates.{coordinates}
 use Rattle.sheets.specs.declared.term.Operation.{Operation}
-use Rattle.sheets.specs.declared.term.Operation.TheVariants.{Plus}
 use Rattle.sheets.specs.Language.{Expr, variable, outer, pointwise, turned, contracted, depth}
 use Rattle.sheets.specs.Sheets.{Contents}
 use Rattle.sheets.specs.Terms.{meant, expression_of, node_there, Judged}
@@ -29,9 +31,6 @@ use Rattle.evaluation.specs.declared.frame.Focus.{Focus}
 use Rattle.evaluation.specs.declared.frame.Focus.TheVariants.{Down, Up}
 use Rattle.evaluation.specs.declared.frame.Frame.{Frame}
 use Rattle.evaluation.specs.declared.frame.Frame.TheVariants.{Left, Right, Sum}
-use Rattle.evaluation.specs.declared.frame.Stack.{Stack}
-use Rattle.evaluation.specs.declared.frame.Turn.{Turn}
-use Rattle.evaluation.specs.declared.frame.Turn.TheVariants.{Next, Done}
 use Rattle.evaluation.specs.Value.{applied, spans, node_reach, node_value}
 
 pub record Setting (E : Type 0) : Type 0 where
@@ -65,16 +64,8 @@ worth t k i = node_value t.algebra t.meaning t.sheet k i
 abbrev pub goes : {E : Type 0} → Setting E → ℕ → List ℕ
 goes t k = node_reach t.meaning t.sheet k
 
--- a frame to fill a stack with
-abbrev pub blank : Frame
-blank = Right Plus 0
-
-unfoldable pub tops : List Frame → ℕ → List Frame
-tops fs zero = []
-tops fs (suc d) = slice_index_or fs d blank ∷ tops fs d
-
-abbrev pub stack_of : Stack → List Frame
-stack_of s = tops s.frames s.depth
+abbrev pub stack_of : ArrayVec Frame → List Frame
+stack_of s = reverse s.items
 
 pub record Runs {E : Type 0} (t : Setting E) (used k : ℕ) (i : List ℕ) : Type 0 where
   pub there : node_there t.sheet k ≡ true
@@ -141,9 +132,9 @@ pub record Stepped {E : Type 0} (t : Setting E) (fs : List Frame) (f : Focus) (f
   pub same : whole t fs' f' ≡ whole t fs f
   pub less : load t fs' f' < load t fs f
 
-abbrev pub Turned : {E : Type 0} → Setting E → List Frame → Focus → List Frame → Turn → Type 0
-Turned t fs f fs' (Next f') = Stepped t fs f fs' f'
-Turned t fs f fs' (Done c) = decoded t.algebra c ≡ whole t fs f
+abbrev pub Turned : {E : Type 0} → Setting E → List Frame → Focus → List Frame → ControlFlow ℕ Focus → Type 0
+Turned t fs f fs' (Continue f') = Stepped t fs f fs' f'
+Turned t fs f fs' (Break c) = decoded t.algebra c ≡ whole t fs f
 
 abbrev pub Room : Frame → List Frame → Type 0
 Room (Left op right at) fs = length fs < 15

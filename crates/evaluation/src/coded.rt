@@ -6,6 +6,7 @@ ghost use Rattle.stores.specs.Meaning.{in_reach};
 ghost use Rattle.evaluation.specs.Machine.{decoded};
 ghost use Rattle.evaluation.specs.Value.{applied};
 
+use super::site::Site;
 use elements::kind::Kind;
 use indices::index::Index;
 use sheets::term::Operation;
@@ -15,10 +16,7 @@ use stores::store::Store;
 pub(crate) fn value_of<K: Kind>(code: u64) -> K
     ensures { result ≡ decoded K.Kind.algebra code }
 {
-    match K::decode(code) {
-        Some(x) => x,
-        None => K::zero(),
-    }
+    K::decode(code).unwrap_or(K::zero())
 }
 
 pub(crate) fn zero_code<K: Kind>() -> u64
@@ -31,6 +29,7 @@ pub(crate) fn zero_code<K: Kind>() -> u64
 fn apply<K: Kind>(operation: Operation, x: K, y: K) -> K
     ensures { result ≡ applied K.Kind.algebra (meant operation) x y }
 {
+    // a match: which operation it is stands in the sheet, as data
     match operation {
         Operation::Plus => x.sum(y),
         Operation::Minus => x.difference(y),
@@ -48,13 +47,12 @@ pub(crate) fn combined<K: Kind>(operation: Operation, left: u64, right: u64) -> 
     apply(operation, x, y).code()
 }
 
-// The code of the element at a place in reach.
-pub(crate) fn fetch<K: Kind, S: Store<Item = K>>(s: &S, v: u16, at: Index) -> u64
-    requires { in_reach (S.Store.meaning s.now) v (coordinates at) ≡ true }
-    ensures { decoded K.Kind.algebra result ≡ (S.Store.meaning s.now).at v (coordinates at) }
-{
-    match s.read(v as usize, at.as_slice()) {
-        Ok(x) => x.code(),
-        Err(_) => 0,
+impl<K: Kind, S: Store<Item = K>> Site<'_, S> {
+    // The code of the element at a place in reach.
+    pub(crate) fn fetch(&self, v: u16, at: Index) -> u64
+        requires { in_reach (S.Store.meaning self.now.store.now) v (coordinates at) ≡ true }
+        ensures { decoded K.Kind.algebra result ≡ (S.Store.meaning self.now.store.now).at v (coordinates at) }
+    {
+        self.store.read(v as usize, at.as_slice()).unwrap().code()
     }
 }

@@ -1,6 +1,6 @@
 // An evaluation under way: the node or the value in focus, and what is to be made of its value. Values are kept as codes.
-ghost use Rattle.std.specs.Prelude.{◌≡◌, ◌≤◌, length};
 
+use arrayvec::ArrayVec;
 use indices::index::Index;
 use sheets::term::Operation;
 
@@ -36,17 +36,16 @@ pub(crate) enum Focus {
     Up { code: u64 },
 }
 
-#[derive(Clone, Copy)]
-pub(crate) enum Turn {
-    Next { focus: Focus },
-    Done { code: u64 },
+// What the unused places of a stack hold.
+impl Default for Frame {
+    fn default() -> Frame {
+        Frame::Right {
+            operation: Operation::Plus,
+            left: 0,
+        }
+    }
 }
 
-// A node has a depth of at most 16 and each frame stands above a deeper node, so fifteen frames are enough.
-#[derive(Clone, Copy)]
-pub(crate) struct Stack {
-    pub(crate) depth: usize,
-    pub(crate) frames: [Frame; 15],
-    ghost whole: { length frames ≡ 15 },
-    ghost small: { depth ≤ 15 },
-}
+// The frames that wait, the last one at the end. A node has a depth of at most 16 and each frame stands above a deeper node,
+// so fifteen are enough.
+pub(crate) type Stack = ArrayVec<Frame, 15>;

@@ -9,7 +9,7 @@ mod fitting;
 mod frame;
 mod machine;
 mod reach;
-mod stack;
+mod site;
 #[cfg(test)]
 mod tests;
 pub mod tray;

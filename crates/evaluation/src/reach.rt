@@ -6,12 +6,14 @@ ghost use Rattle.sheets.specs.Terms.{node_there, UnfoldsTo};
 ghost use Rattle.evaluation.specs.Sources.{Traced};
 ghost use Rattle.evaluation.specs.Value.{node_reach};
 
+use super::site::Site;
 use elements::kind::Kind;
 use sheets::checked::CheckedSheet;
 use sheets::term::{Operation, Term};
 use stores::store::Store;
 
 // Where a dimension of a node comes from: a dimension of a variable, or one of an operand.
+// Named, and no ControlFlow, where both would be a bare pair of numbers.
 #[derive(Clone, Copy)]
 pub(crate) enum Source {
     Variable { variable: u16, d: usize },
@@ -78,58 +80,44 @@ fn trace(sheet: &CheckedSheet, k: u16, d: usize) -> Source
     }
 }
 
-// How far dimension d of a node goes.
-pub(crate) fn rounded_of<K: Kind, S: Store<Item = K>>(
-    s: &S,
-    sheet: &CheckedSheet,
-    node: u16,
-    d: usize,
-) -> u16
-    requires fits { (contents sheet.now).shapes ≡ (S.Store.meaning s.now).shapes }
-    requires there { node_there (contents sheet.now) node ≡ true }
-    requires low { 1 ≤ d }
-    requires high { d ≤ length (node_reach (S.Store.meaning s.now) (contents sheet.now) node) }
-    ensures { result ≡ at1 (node_reach (S.Store.meaning s.now) (contents sheet.now) node) d }
-{
-    let mut k = node;
-    let mut e = d;
-    loop {
-        match trace(sheet, k, e) {
-            Source::Variable { variable, d } => {
-                return match s.rounded(variable as usize, d) {
-                    Ok(r) => r,
-                    Err(_) => 0,
-                };
-            }
-            Source::Operand { node, d } => {
-                k = node;
-                e = d;
+impl<K: Kind, S: Store<Item = K>> Site<'_, S> {
+    // How far dimension d of a node goes.
+    pub(crate) fn rounded_of(&self, node: u16, d: usize) -> u16
+        requires there { node_there (contents self.now.sheet.now) node ≡ true }
+        requires low { 1 ≤ d }
+        requires high { d ≤ length (node_reach (S.Store.meaning self.now.store.now) (contents self.now.sheet.now) node) }
+        ensures { result ≡ at1 (node_reach (S.Store.meaning self.now.store.now) (contents self.now.sheet.now) node) d }
+    {
+        let mut k = node;
+        let mut e = d;
+        loop {
+            match trace(self.sheet, k, e) {
+                Source::Variable { variable, d } => {
+                    return self.store.rounded(variable as usize, d).unwrap();
+                }
+                Source::Operand { node, d } => {
+                    k = node;
+                    e = d;
+                }
             }
         }
     }
-}
 
-// Whether there is such a node, and it has a place at this index.
-pub(crate) fn in_reach<K: Kind, S: Store<Item = K>>(
-    s: &S,
-    sheet: &CheckedSheet,
-    k: u16,
-    index: &[u16],
-) -> bool
-    requires { (contents sheet.now).shapes ≡ (S.Store.meaning s.now).shapes }
-    ensures { result ≡ (node_there (contents sheet.now) k && within (node_reach (S.Store.meaning s.now) (contents sheet.now) k) index.now) }
-{
-    let Some(_) = sheet.term(k) else {
-        return false;
-    };
-    if index.len() != sheet.rank(k) {
-        return false;
-    }
-    for d in 0..index.len() {
-        let limit = rounded_of(s, sheet, k, d + 1);
-        if index[d] < 1 || index[d] > limit {
+    // Whether there is such a node, and it has a place at this index.
+    pub(crate) fn in_reach(&self, k: u16, index: &[u16]) -> bool
+        ensures { result ≡ (node_there (contents self.now.sheet.now) k && within (node_reach (S.Store.meaning self.now.store.now) (contents self.now.sheet.now) k) index.now) }
+    {
+        if self.sheet.term(k).is_none() {
             return false;
         }
+        if index.len() != self.sheet.rank(k) {
+            return false;
+        }
+        for (d, &coordinate) in index.iter().enumerate() {
+            if coordinate < 1 || coordinate > self.rounded_of(k, d + 1) {
+                return false;
+            }
+        }
+        true
     }
-    true
 }

@@ -4,9 +4,7 @@ ghost use Rattle.sheets.specs.Sheets.{contents};
 ghost use Rattle.evaluation.specs.Law.{Law};
 ghost use Rattle.evaluation.specs.Value.{value_answer};
 
-use super::fitting::fits;
-use super::machine::evaluate;
-use super::reach::in_reach;
+use super::site::Site;
 use elements::kind::Kind;
 use indices::index::Index;
 use sheets::checked::CheckedSheet;
@@ -22,12 +20,10 @@ pub fn value<K: Kind, S: Store<Item = K>>(
     ensures value { result ≡ value_answer K.Kind.algebra (S.Store.meaning s.now) (contents sheet.now) k index.now }
     ensures law { Law K.Kind.algebra (S.Store.meaning s.now) }
 {
-    if !fits(s, sheet) {
-        return None;
-    }
-    if !in_reach(s, sheet, k, index) {
+    let site = Site::of(s, sheet)?;
+    if !site.in_reach(k, index) {
         return None;
     }
     let at = Index::try_from(index).ok()?;
-    Some(evaluate(s, sheet, k, at))
+    Some(site.evaluate(k, at))
 }

@@ -2,15 +2,11 @@
 
 #![tactic(auto)]
 
-use self::layouts::{
-    print_over_cells, print_over_image, print_over_padded_cells, print_over_padded_image,
-};
+use self::layouts::print_over_all;
 use self::report::Figures;
 use elements::kind::Kind;
 use elements::legs::Legs;
 use elements::metres::Metres;
-use elements::quantity::Quantity;
-use std::fmt;
 
 mod layouts;
 mod report;
@@ -46,16 +42,6 @@ fn in_legs() -> Figures<Legs> {
         trace: b,
         filler: Legs::of(7),
     }
-}
-
-fn print_over_all<K: Kind + fmt::Display>(
-    rt: &HostRuntime,
-    figures: &Figures<K>,
-) -> anyhow::Result<()> {
-    print_over_cells(rt, figures)?;
-    print_over_image(rt, figures)?;
-    print_over_padded_cells(rt, figures)?;
-    print_over_padded_image(rt, figures)
 }
 
 fn print_all(rt: &HostRuntime) -> anyhow::Result<()> {

@@ -4,7 +4,7 @@ use anyhow::anyhow;
 use elements::kind::Kind;
 use evaluation::tray::work_out;
 use refusals::refusal::Refusal;
-use std::alloc::{AllocError, Global};
+use std::alloc::Global;
 use std::fmt;
 use stores::store::Store;
 
@@ -19,16 +19,7 @@ pub(super) struct Figures<K> {
     pub(super) filler: K,
 }
 
-// So many elements, each of them `filler`.
-pub(super) fn filled<K: Kind>(heap: Global, filler: K, count: u16) -> Result<Vec<K>, AllocError> {
-    let mut elements = Vec::new(heap);
-    for _ in 0..count {
-        elements.push(filler)?;
-    }
-    Ok(elements)
-}
-
-// Puts A and B into a store.
+// Puts A and B into a store, place by place: an array of a type parameter's elements is gone over by no loop here.
 fn put<K: Kind, S: Store<Item = K>>(s: &mut S, a: [K; 6], b: [K; 6]) -> Result<(), Refusal> {
     s.write(1, &[1, 1], a[0])?;
     s.write(1, &[1, 2], a[1])?;
@@ -45,10 +36,10 @@ fn put<K: Kind, S: Store<Item = K>>(s: &mut S, a: [K; 6], b: [K; 6]) -> Result<(
 }
 
 fn at<K: Kind>(tray: &[K], k: usize) -> anyhow::Result<K> {
-    match tray.get(k) {
-        Some(x) => Ok(*x),
-        None => Err(anyhow!("the tray is too short")),
-    }
+    let Some(x) = tray.get(k) else {
+        return Err(anyhow!("the tray is too short"));
+    };
+    Ok(*x)
 }
 
 // Statement n over a store, in a tray with one element more than 4 by 4 places.
@@ -58,11 +49,11 @@ fn worked<K: Kind, S: Store<Item = K>>(
     n: usize,
     filler: K,
 ) -> anyhow::Result<(usize, Vec<K>)> {
-    let mut tray = filled(heap, filler, 17)?;
-    match work_out(s, &sheet()?, n, tray.as_mut_slice()) {
-        Some(places) => Ok((places, tray)),
-        None => Err(anyhow!("the statement is not worked out")),
-    }
+    let mut tray = vec![in heap; filler; 17]?;
+    let Some(places) = work_out(s, &sheet()?, n, tray.as_mut_slice()) else {
+        return Err(anyhow!("the statement is not worked out"));
+    };
+    Ok((places, tray))
 }
 
 fn print_row<X: fmt::Display + Drop>(
@@ -78,6 +69,7 @@ fn print_row<X: fmt::Display + Drop>(
 }
 
 // C from its tray, in which a row has so many places, how many places there are, and the element behind them.
+// The figures are a parameter of their own: behind a reference in a struct, the arrays of K have no known size and get no proof.
 fn print_product<K: Kind + fmt::Display, S: Store<Item = K>>(
     rt: &HostRuntime,
     figures: &Figures<K>,

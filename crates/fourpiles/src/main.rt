@@ -2,10 +2,10 @@
 
 #![tactic(auto)]
 
-use self::piles::{Entry, TABLES, WIDE, bytes, elements, print_padded, print_pile};
+use self::piles::{Entry, print_padded, print_pile};
 use elements::metres::Metres;
-use images::image::Image;
-use stores::cells::Cells;
+use samples::layouts::{cells, image};
+use samples::tables::{TABLES, WIDE};
 
 mod piles;
 mod plan;
@@ -40,40 +40,14 @@ fn factors() -> [Entry<Metres>; 12] {
     ]
 }
 
-fn print_over_cells(rt: &HostRuntime) -> anyhow::Result<()> {
-    match Cells::open(&TABLES, elements(rt.alloc(), Metres::of(FILLER), 16)?) {
-        Ok(mut cells) => print_pile(rt, "cells", &factors(), &mut cells),
-        Err(declined) => Err(declined.refusal.into()),
-    }
-}
-
-fn print_over_image(rt: &HostRuntime) -> anyhow::Result<()> {
-    match Image::<Metres>::open(&TABLES, bytes(rt.alloc(), Metres::of(FILLER), [6, 6, 4])?) {
-        Ok(mut image) => print_pile(rt, "image", &factors(), &mut image),
-        Err(declined) => Err(declined.refusal.into()),
-    }
-}
-
-fn print_over_padded_cells(rt: &HostRuntime) -> anyhow::Result<()> {
-    match Cells::open(&WIDE, elements(rt.alloc(), Metres::of(FILLER), 48)?) {
-        Ok(cells) => print_padded(rt, "pad4-cells", &factors(), cells),
-        Err(declined) => Err(declined.refusal.into()),
-    }
-}
-
-fn print_over_padded_image(rt: &HostRuntime) -> anyhow::Result<()> {
-    match Image::<Metres>::open(&WIDE, bytes(rt.alloc(), Metres::of(FILLER), [16, 16, 16])?) {
-        Ok(image) => print_padded(rt, "pad4-image", &factors(), image),
-        Err(declined) => Err(declined.refusal.into()),
-    }
-}
-
 fn print_piles(rt: &HostRuntime) -> anyhow::Result<()> {
+    let (heap, filler) = (rt.alloc(), Metres::of(FILLER));
+    let entries = factors();
     println!(rt; "pile c11 c12 c21 c22")?;
-    print_over_cells(rt)?;
-    print_over_image(rt)?;
-    print_over_padded_cells(rt)?;
-    print_over_padded_image(rt)
+    print_pile(rt, "cells", &entries, &mut cells(heap, &TABLES, filler)?)?;
+    print_pile(rt, "image", &entries, &mut image(heap, &TABLES, filler)?)?;
+    print_padded(rt, "pad4-cells", &entries, cells(heap, &WIDE, filler)?)?;
+    print_padded(rt, "pad4-image", &entries, image(heap, &WIDE, filler)?)
 }
 
 fn main(rt: HostRuntime) -> anyhow::Result<()> {

@@ -4,31 +4,9 @@ use anyhow::anyhow;
 use elements::kind::Kind;
 use padding::layer;
 use refusals::refusal::Refusal;
-use shapes::declaration::Declaration;
-use std::alloc::{AllocError, Global};
+use samples::tables::TABLES;
 use std::fmt;
 use stores::store::Store;
-
-// The tables, and the same rounded up to multiples of 4.
-pub(super) const TABLES: [Declaration; 3] = [
-    Declaration {
-        rank: 2,
-        extents: [2, 3, 0, 0],
-    },
-    Declaration {
-        rank: 2,
-        extents: [3, 2, 0, 0],
-    },
-    Declaration {
-        rank: 2,
-        extents: [2, 2, 0, 0],
-    },
-];
-
-pub(super) const WIDE: [Declaration; 3] = [Declaration {
-    rank: 2,
-    extents: [4, 4, 0, 0],
-}; 3];
 
 // An element of A or B, and where it stands.
 #[derive(Clone, Copy)]
@@ -38,41 +16,9 @@ pub(super) struct Entry<K> {
     pub(super) element: K,
 }
 
-// So many elements, each of them `filler`.
-pub(super) fn elements<K: Kind>(heap: Global, filler: K, count: u16) -> Result<Vec<K>, AllocError> {
-    let mut elements = Vec::new(heap);
-    for _ in 0..count {
-        elements.push(filler)?;
-    }
-    Ok(elements)
-}
-
-// An image of three variables with so many elements each, all of them `filler`: header, pairs, and one part after the other.
-pub(super) fn bytes<K: Kind>(
-    heap: Global,
-    filler: K,
-    counts: [u16; 3],
-) -> Result<Vec<u8>, AllocError> {
-    let mut bytes = Vec::from_slice(heap, &[K::number(), 3, 0, 0])?;
-    let mut offset: u32 = 28;
-    for count in counts {
-        let len = 8 * u32::from(count);
-        bytes.extend_from_slice(&offset.to_be_bytes())?;
-        bytes.extend_from_slice(&len.to_be_bytes())?;
-        offset = offset.saturating_add(len);
-    }
-    for count in counts {
-        for _ in 0..count {
-            bytes.extend_from_slice(&filler.code().to_be_bytes())?;
-        }
-    }
-    Ok(bytes)
-}
-
 // Puts the elements of A and B into a store.
 fn put<K: Kind, S: Store<Item = K>>(s: &mut S, entries: &[Entry<K>]) -> Result<(), Refusal> {
-    for k in 0..entries.len() {
-        let entry = entries[k];
+    for entry in entries {
         s.write(entry.table, &entry.index, entry.element)?;
     }
     Ok(())
@@ -105,8 +51,6 @@ pub(super) fn print_padded<K: Kind + fmt::Display, S: Store<Item = K> + Drop>(
     entries: &[Entry<K>],
     below: S,
 ) -> anyhow::Result<()> {
-    match layer::open(&TABLES, 4, below) {
-        Ok(mut padding) => print_pile(rt, name, entries, &mut padding),
-        Err(declined) => Err(declined.refusal.into()),
-    }
+    let mut padding = layer::open(&TABLES, 4, below).map_err(|declined| declined.refusal)?;
+    print_pile(rt, name, entries, &mut padding)
 }

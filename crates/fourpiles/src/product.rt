@@ -50,6 +50,7 @@ fn sides<S: Store>(s: &S, v: usize) -> Option<(u16, u16)>
     Some((height, width))
 }
 
+// That the plan conforms is asked by each of the three: a struct over the `&mut` store would owe it again at every write.
 // An entry of the product.
 fn entry<K: Kind, S: Store<Item = K>>(s: &S, t: Plan, i: u16, j: u16) -> Result<K, Refusal>
     requires conforms { Conforms (S.Store.meaning s.now).shapes t }
@@ -57,6 +58,7 @@ fn entry<K: Kind, S: Store<Item = K>>(s: &S, t: Plan, i: u16, j: u16) -> Result<
     ensures { answered result ≡ done (entry_of K.Kind.algebra (S.Store.meaning s.now).at t i j) }
 {
     let mut sum = K::zero();
+    // coordinates are counted, here and below: a store has no slice of its places
     for l in 0..t.inner {
         let x = s.read(t.left, &[i, l + 1])?;
         let y = s.read(t.right, &[l + 1, j])?;

@@ -160,3 +160,19 @@ module _ {E : Type 0} (a : Algebra E) (ss : List (List ℕ)) (bs : List ℕ) (la
     pub image_kept : Laid a ss (patched (spot bs ss v i) (bytes 8 (a.code x)) bs)
     unfolding n
     image_kept = laid_after v n (a.code x) h (column_lt (pick ss v) i w) f (ap is_some (laws.decode_code x))
+
+-- a place that was found, and the buffer after an element was put there
+module _ {E : Type 0} (a : Algebra E) (ss : List (List ℕ)) (bs : List ℕ) (laid : Laid a ss bs) (v : ℕ) (i : List ℕ) (at : ℕ) (e : done at ≡ spot_answer ss bs v i) where
+  pub found_room : at + 8 ≤ length bs
+  found_room = let p = found ss bs v i at e in omega (arith, cell_room a ss bs laid v i p.known p.inside, p.spot_is)
+
+  module _ (laws : Laws a) (x : E) (f : a.code x < 2 ^ 64) (new : List ℕ) (n : new ≡ patched at (bytes 8 (a.code x)) bs) where
+    pub put_laid : Laid a ss new
+    put_laid =
+        let p = found ss bs v i at e in
+        subst (Laid a ss) (sym (rw p.spot_is at n)) (image_kept a ss bs laid laws v i x p.known p.inside f)
+
+    pub put_written : Written true (imaged a ss bs) v i x (imaged a ss new)
+    put_written =
+        let p = found ss bs v i at e in
+        subst (λ t. Written true (imaged a ss bs) v i x (imaged a ss t)) (sym (rw p.spot_is at n)) (image_written a ss bs laid laws v i x p.known p.inside f)

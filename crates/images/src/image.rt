@@ -24,7 +24,7 @@ pub struct Image<K: Kind> {
     table: Table,
     bytes: Vec<u8>,
     kind: PhantomData<K>,
-    ghost laid: { Laid K.Kind.algebra (shapes_of table) bytes.items } by { Prim.hlevel props },
+    pub ghost laid: { Laid K.Kind.algebra (shapes_of table) bytes.items } by { Prim.hlevel props },
 }
 
 impl<K: Kind> Image<K> {

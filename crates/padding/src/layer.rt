@@ -23,8 +23,8 @@ pub struct Padding<S: Store> {
     table: Table,
     m: VectorLength,
     below: S,
-    ghost wide: { (S.Store.meaning below).shapes ≡ all_rounded m.count (shapes_of table) },
-    ghost blank: { Blank S.Item.Kind.algebra (shapes_of table) (S.Store.meaning below) },
+    pub ghost wide: { (S.Store.meaning below).shapes ≡ all_rounded m.count (shapes_of table) },
+    pub ghost blank: { Blank S.Item.Kind.algebra (shapes_of table) (S.Store.meaning below) },
 }
 
 // The declared shapes and the vector length; the store below has the rounded shapes.

@@ -22,7 +22,7 @@ impl VectorLength {
         extent.next_multiple_of(self.count)
     }
 
-    // The shape with every extent rounded up, if that is a shape.
+    // The shape with every extent rounded up, if that is a shape. Extents fill an array: a declaration has one, of fixed size.
     fn round_shape(self, shape: &Shape) -> Option<Shape>
         ensures { option_map extents_of result ≡ (if proper (rounded self.count (extents_of shape.now)) then Some (rounded self.count (extents_of shape.now)) else None) }
     {

@@ -4,15 +4,14 @@ ghost use Rattle.std.specs.Prelude.{◌≡◌, IfOk};
 use anyhow::anyhow;
 use elements::kind::Kind;
 use elements::metres::Metres;
-use runs::list::{Entry, Reply};
+use runs::list::{Entry, Outcome, Reply};
 
 // The element that a fetch was answered with.
 fn fetched<K: Kind>(reply: Reply<K>) -> anyhow::Result<K>
-    ensures { IfOk result (λ x. reply ≡ Reply.Element x) }
+    ensures { IfOk result (λ x. reply ≡ Ok (Outcome.Element x)) }
 {
-    match reply {
-        Reply::Element(x) => Ok(x),
-        Reply::Refused(refusal) => Err(refusal.into()),
+    match reply? {
+        Outcome::Element(x) => Ok(x),
         _ => Err(anyhow!("a fetch was not answered with an element")),
     }
 }

@@ -2,11 +2,11 @@
 ghost use Rattle.std.specs.Prelude.{◌≡◌, [], ◌∷◌};
 ghost use Rattle.indices.specs.Coordinates.{coordinates};
 
-use super::piles::TABLES;
 use elements::metres::Metres;
 use indices::index::Index;
 use refusals::refusal::Refusal;
-use runs::list::{Call, Entry, Reply};
+use runs::list::{Call, Entry, Outcome};
+use samples::tables::TABLES;
 use sheets::checked::CheckedSheet;
 use sheets::node::{Node, Statement};
 use sheets::verdict::judge;
@@ -64,8 +64,8 @@ fn place(row: u16, column: u16) -> Index
 fn entry(call: Call<Metres>) -> Entry<Metres> {
     Entry {
         call,
-        left: Reply::Done,
-        right: Reply::Done,
+        left: Ok(Outcome::Done),
+        right: Ok(Outcome::Done),
     }
 }
 

@@ -1,5 +1,5 @@
 // One list of calls, passed to two runs of one sheet over two stores.
-ghost use Rattle.std.specs.Prelude.{◌≡◌, ◌<◌, length, IfOk, MatchResult, slice_set};
+ghost use Rattle.std.specs.Prelude.{◌≡◌, length, IfOk, MatchResult};
 ghost use Rattle.refusals.specs.Refusals.{opened, and_then};
 ghost use Rattle.sheets.specs.Sheets.{contents};
 ghost use Rattle.runs.specs.Agreement.{Moves, Chain, Agreement};
@@ -7,7 +7,7 @@ ghost use Rattle.runs.specs.Lists.{call_of, reply_of, calls_of, lefts_of, rights
 ghost use Rattle.runs.specs.Opening.{open_answer};
 
 use super::calls::{fetch, put, rewind, step};
-use super::list::{Call, Entry, Pair, Reply};
+use super::list::{Call, Entry, Outcome, Pair, Reply};
 use super::opening::{close, open};
 use super::run::{Opened, Run};
 use elements::kind::Kind;
@@ -20,38 +20,30 @@ fn perform<K: Kind, S: Store<Item = K>>(run: &mut Run<S>, call: Call<K>, tray: &
     ensures sheet { run.new.sheet ≡ run.old.sheet }
     ensures moves { Moves K.Kind.algebra (contents run.old.sheet) (call_of (length tray.old) call) (record { meaning = S.Store.meaning run.old.store; next = run.old.next }) (reply_of result) (record { meaning = S.Store.meaning run.new.store; next = run.new.next }) }
 {
+    // a match: the list of calls is data
     match call {
-        Call::Fetch { variable, index } => match fetch(run, variable, index.as_slice()) {
-            Ok(x) => Reply::Element(x),
-            Err(refusal) => Reply::Refused(refusal),
-        },
+        Call::Fetch { variable, index } => {
+            let x = fetch(run, variable, index.as_slice())?;
+            Ok(Outcome::Element(x))
+        }
         Call::Put {
             variable,
             index,
             element,
-        } => match put(run, variable, index.as_slice(), element) {
-            Ok(()) => Reply::Done,
-            Err(refusal) => Reply::Refused(refusal),
-        },
+        } => {
+            put(run, variable, index.as_slice(), element)?;
+            Ok(Outcome::Done)
+        }
         Call::Step { size } => {
-            let n = if size < tray.len() { size } else { tray.len() };
-            match step(run, &mut tray[..n]) {
-                Ok(done) => Reply::Statement(done),
-                Err(refusal) => Reply::Refused(refusal),
-            }
+            let n = size.min(tray.len());
+            let done = step(run, &mut tray[..n])?;
+            Ok(Outcome::Statement(done))
         }
         Call::Rewind => {
             rewind(run);
-            Reply::Done
+            Ok(Outcome::Done)
         }
     }
-}
-
-fn enter<K: Copy>(entries: &mut [Entry<K>], k: usize, entry: Entry<K>)
-    requires { k < length entries.old }
-    ensures { entries.new ≡ slice_set entries.old k entry }
-{
-    entries[k] = entry;
 }
 
 // Every call of the list, to both runs.
@@ -65,11 +57,11 @@ fn pass<K: Kind, S: Store<Item = K>, T: Store<Item = K>>(
     ensures left { Chain K.Kind.algebra (contents one.old.sheet) (record { meaning = S.Store.meaning one.old.store; next = one.old.next }) (calls_of (length tray.old) entries.old) (lefts_of entries.new) (record { meaning = S.Store.meaning one.new.store; next = one.new.next }) }
     ensures right { Chain K.Kind.algebra (contents two.old.sheet) (record { meaning = T.Store.meaning two.old.store; next = two.old.next }) (calls_of (length tray.old) entries.old) (rights_of entries.new) (record { meaning = T.Store.meaning two.new.store; next = two.new.next }) }
 {
-    for k in 0..entries.len() {
-        let call = entries[k].call;
+    for entry in entries.iter_mut() {
+        let call = entry.call;
         let left = perform(one, call, tray);
         let right = perform(two, call, tray);
-        enter(entries, k, Entry { call, left, right });
+        *entry = Entry { call, left, right };
     }
 }
 

@@ -1,19 +1,31 @@
 // The calls of a run.
-ghost use Rattle.std.specs.Prelude.{◌≡◌, false, cond, ◌++◌, length, is_ok};
+ghost use Rattle.std.specs.Prelude.{◌≡◌, false, cond, ◌++◌, length, is_ok, if◌then◌else◌};
 ghost use Rattle.evaluation.specs.Tray.{worked, target};
 ghost use Rattle.indices.specs.Places.{product};
-ghost use Rattle.refusals.specs.Refusals.{answered};
+ghost use Rattle.refusals.specs.Refusals.{answered, done, refused};
 ghost use Rattle.sheets.specs.Sheets.{contents};
 ghost use Rattle.runs.specs.Agreement.{Moved};
 ghost use Rattle.runs.specs.Calls.{tray_after};
-ghost use Rattle.runs.specs.Plain.{fetch_answer, put_answer, step_answer, after, put as put_call, step as step_call, rewind as rewind_call};
+ghost use Rattle.runs.specs.Plain.{in_sheet, fetch_answer, put_answer, step_answer, after, put as put_call, step as step_call, rewind as rewind_call};
 
 use super::run::Run;
 use super::writing::write_all;
 use elements::kind::Kind;
 use evaluation::tray::{reach_of, work_out};
 use refusals::refusal::Refusal;
+use sheets::checked::CheckedSheet;
 use stores::store::Store;
+
+// Whether a place is in shape, by the sheet.
+fn in_shape(sheet: &CheckedSheet, v: usize, index: &[u16]) -> Result<(), Refusal>
+    ensures { answered result ≡ (if in_sheet (contents sheet.now) v index.now then done tt else refused 20 0) }
+{
+    let table = sheet.table();
+    if !table.contains(v, index) {
+        return Err(Refusal::OutOfShape);
+    }
+    Ok(())
+}
 
 // The element at a place in shape.
 pub fn fetch<K: Kind, S: Store<Item = K>>(
@@ -23,10 +35,7 @@ pub fn fetch<K: Kind, S: Store<Item = K>>(
 ) -> Result<K, Refusal>
     ensures { answered result ≡ fetch_answer (contents run.now.sheet) (record { at = (S.Store.meaning run.now.store).at; next = run.now.next }) v index.now }
 {
-    let table = run.sheet.table();
-    if !table.contains(v, index) {
-        return Err(Refusal::OutOfShape);
-    }
+    in_shape(&run.sheet, v, index)?;
     run.store.read(v, index)
 }
 
@@ -42,10 +51,7 @@ pub fn put<K: Kind, S: Store<Item = K>>(
     ensures moved { Moved (S.Store.meaning run.old.store) (after K.Kind.algebra (contents run.old.sheet) (S.Store.meaning run.old.store).reach (record { at = (S.Store.meaning run.old.store).at; next = run.old.next }) (put_call v index.now x)) (S.Store.meaning run.new.store) run.new.next }
     ensures same { is_ok result ≡ false → (run.new.store ≡ run.old.store) × (run.new.next ≡ run.old.next) }
 {
-    let table = run.sheet.table();
-    if !table.contains(v, index) {
-        return Err(Refusal::OutOfShape);
-    }
+    in_shape(&run.sheet, v, index)?;
     run.store.write(v, index, x)
 }
 
@@ -71,9 +77,7 @@ pub fn step<K: Kind, S: Store<Item = K>>(run: &mut Run<S>, tray: &mut [K]) -> Re
     let Some(_) = work_out(&run.store, &run.sheet, n, tray) else {
         return Err(Refusal::ValueNotTaken);
     };
-    if !write_all(&mut run.store, v, &reach, tray) {
-        return Err(Refusal::ValueNotTaken);
-    }
+    write_all(&mut run.store, v, &reach, tray).map_err(|_| Refusal::ValueNotTaken)?;
     run.next = n + 1;
     Ok(n)
 }

@@ -20,14 +20,16 @@ pub enum Call<K> {
     Rewind,
 }
 
-// The element fetched, the number of the statement just done, nothing more, or a refusal.
+// What a call that is done tells: the element fetched, the number of the statement just done, or nothing more.
 #[derive(Clone, Copy)]
-pub enum Reply<K> {
+pub enum Outcome<K> {
     Element(K),
     Statement(usize),
     Done,
-    Refused(Refusal),
 }
+
+// What a call replies: its outcome, or why it is refused.
+pub type Reply<K> = Result<Outcome<K>, Refusal>;
 
 #[derive(Clone, Copy)]
 pub struct Entry<K> {

@@ -13,7 +13,7 @@ pub struct Run<S: Store> {
     pub(crate) next: usize,
     ghost low: { 1 ≤ next },
     ghost high: { next ≤ length (contents sheet).statements + 1 },
-    ghost fits: { (contents sheet).shapes ≡ (S.Store.meaning store).shapes },
+    pub ghost fits: { (contents sheet).shapes ≡ (S.Store.meaning store).shapes },
 }
 
 // Handed out beside a run. It cannot be dropped, and only `close` takes it apart: a run that is open is never forgotten.

@@ -1,6 +1,6 @@
 // Lists of calls to a run over cells and to one over padding, and what both reply.
 use super::agreement::agree;
-use super::list::{Call, Entry, Reply};
+use super::list::{Call, Entry, Outcome, Reply};
 use elements::kind::Kind;
 use elements::metres::Metres;
 use elements::quantity::Quantity;
@@ -72,8 +72,8 @@ fn pass(rt: &HostRuntime, entries: &mut [Entry<Metres>]) -> Result<(), Fail> {
 fn entry(call: Call<Metres>) -> Entry<Metres> {
     Entry {
         call,
-        left: Reply::Done,
-        right: Reply::Done,
+        left: Ok(Outcome::Done),
+        right: Ok(Outcome::Done),
     }
 }
 
@@ -101,7 +101,7 @@ fn step(size: usize) -> Entry<Metres> {
 
 fn element(reply: Reply<Metres>) -> Result<Metres, Fail> {
     match reply {
-        Reply::Element(x) => Ok(x),
+        Ok(Outcome::Element(x)) => Ok(x),
         _ => Err(Fail::new("no element")),
     }
 }
@@ -116,7 +116,7 @@ fn check_element(rt: &impl Abort, entry: Entry<Metres>, value: i64) -> Result<()
 // Both runs did this statement.
 fn check_done(rt: &impl Abort, entry: Entry<Metres>, n: usize) -> Result<(), Fail> {
     match (entry.left, entry.right) {
-        (Reply::Statement(x), Reply::Statement(y)) => {
+        (Ok(Outcome::Statement(x)), Ok(Outcome::Statement(y))) => {
             assert_eq!(rt; (x, y), (n, n));
             Ok(())
         },
@@ -127,7 +127,7 @@ fn check_done(rt: &impl Abort, entry: Entry<Metres>, n: usize) -> Result<(), Fai
 // Both runs refused with this number.
 fn check_refused(rt: &impl Abort, entry: Entry<Metres>, number: u8) -> Result<(), Fail> {
     match (entry.left, entry.right) {
-        (Reply::Refused(x), Reply::Refused(y)) => {
+        (Err(x), Err(y)) => {
             assert_eq!(rt; (x.number(), y.number()), (number, number));
             Ok(())
         }

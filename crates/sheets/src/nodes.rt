@@ -23,6 +23,7 @@ impl Known<'_> {
             return Err(Refusal::BadNode(k));
         }
         let (m, n) = (usize::from(node.m), usize::from(node.n));
+        // a match, as wherever forms and operations are told apart: they stand in the sheet, as data
         match form {
             Form::Variable => self.variable(node.a),
             Form::Outer => rules::outer(self.operand(node.a)?, self.operand(node.b)?, k),

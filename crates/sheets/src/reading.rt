@@ -23,7 +23,7 @@ impl CheckedSheet {
         made_of(self.node(k)?)
     }
 
-    // The rank of node k; 0 where there is no such node.
+    // The rank of node k; 0 where there is no such node: it is public, and never fails.
     pub fn rank(&self, k: u16) -> usize
         ensures { result ≡ length (info_at (contents self.now).infos k).extents }
     {

@@ -16,6 +16,12 @@ stands bs k = let e : 8 * k + 4 ≡ 8 * (k + 1) - 4 = omega arith in ap (λ n. n
 one : (bs : List ℕ) (k : ℕ) → offset bs (1 + k) ≡ offset bs (k + 1)
 one bs k = let e : 1 + k ≡ k + 1 = omega arith in ap (offset bs) e
 
+pub number32-at-requires : goal.number32-at-requires
+number32-at-requires g c =
+    let ss = shapes_of c.args.table.now in let k = c.loop-k.k in
+    let l : k < length ss = omega arith in
+    omega (arith, (inside_done c.args.bytes.now 1 (8 * length ss + 4) ss c.requires k l).0)
+
 pub check_part-requires-clause-inside : goal.check_part-requires-clause-inside
 check_part-requires-clause-inside g c =
     let ss = shapes_of c.args.table.now in let bs = c.args.bytes.now in let k = c.loop-k.k in

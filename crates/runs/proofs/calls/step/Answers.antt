@@ -93,7 +93,7 @@ returns g c =
       answer = answer_done d n size long there;
       sheet = refl;
       moved = step_moved d n size long there a laws b law all fit xs c.args.tray.now e (g.S.Store.meaning c.write_all.new.s)
-          (subst (λ u. Wrote a.zero b u xs (g.S.Store.meaning c.write_all.new.s)) q c.if-not-write_all.ensures.wrote);
+          (subst (λ u. Wrote a.zero b u xs (g.S.Store.meaning c.write_all.new.s)) q c.write_all.ensures.wrote);
       same = λ f. absurd (true≢false f);
       tray = e ∙ sym (cond-true (works d n size) (worked a b d n ++ drop (product (target b d n)) c.args.tray.now) c.args.tray.now (work d n size long there));
     }
