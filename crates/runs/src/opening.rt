@@ -12,6 +12,7 @@ use stores::mismatch::Mismatch;
 use stores::store::Store;
 
 // A run at statement 1, if the store has just the declared shapes. The sheet is copied, and no element is touched.
+#[inline]
 pub fn open<S: Store>(sheet: &CheckedSheet, store: S) -> Result<Opened<S>, Declined<S>>
     ensures answer { opened (λ _. tt) result ≡ open_answer (contents sheet.now) (S.Store.meaning store).shapes }
     ensures begins { MatchResult result (λ o. Begins (contents sheet.now) (contents o.run.sheet) o.run.next × (o.run.store ≡ store)) (λ d. d.value ≡ store) }

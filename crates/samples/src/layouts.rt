@@ -30,7 +30,7 @@ impl fmt::Display for NotMade {
     fn fmt<W: fmt::Write>(&self, f: &mut fmt::Formatter<W>) -> fmt::Result {
         match self {
             NotMade::Refused(refusal) => write!(f, "{refusal}"),
-            NotMade::OutOfMemory => write!(f, "memory ran out"),
+            NotMade::OutOfMemory => write!(f, "memory allocation failed"),
         }
     }
 }

@@ -1,13 +1,11 @@
 -- Column-major numbers of places. Assumes nothing.
-use Rattle.std.proofs.Common.{◌≡◌, ℕ, ◌+◌, ◌-◌, ◌*◌, ◌/◌, ◌%◌, ◌<◌, ◌≤◌, Bool, true, false, cond, ◌&&◌, leb, List, [], ◌∷◌, ◌++◌, reverse, length, Some, None, sym, refl, ap, ◌∙◌, ⊎_elim, mul_assoc, mul_comm, mul-add, arith}
+use Rattle.std.proofs.Common.{◌≡◌, ℕ, ◌+◌, ◌-◌, ◌*◌, ◌/◌, ◌%◌, ◌<◌, ◌≤◌, Bool, true, false, cond, ◌&&◌, leb, List, [], ◌∷◌, ◌++◌, reverse, length, get_or, drop, Some, None, sym, refl, ap, ◌∙◌, ⊎_elim, mul_assoc, mul_comm, mul-add, le-mul_of_pos_right, arith}
 use Rattle.std.proofs.lemmas.Bool.{cond-false, cases_eq, false≢true}
-use Rattle.std.proofs.lemmas.List.{reverse-append, length-reverse}
-use Rattle.std.proofs.lemmas.List.Folds.{list_all-append}
+use Rattle.std.proofs.lemmas.List.{drop_more, drop_all, reverse-append, length-reverse}
 use Rattle.std.proofs.lemmas.Nat.{div-mul-add, mod-mul-add, mul-add-lt}
-use Rattle.indices.specs.Places.{within, product, place, column, each, proper}
+use Rattle.indices.specs.Places.{within, product, place, column}
 use Rattle.shapes.specs.Shapes.{place_in, column_in}
-use Rattle.shapes.proofs.Numbering.{within_parts, within_uneven}
-use Rattle.shapes.proofs.Extents.{proper_parts, proper_from}
+use Rattle.shapes.proofs.Numbering.{within_parts, within_uneven, within_length, within_solid, solid_drop, product_pos, count_more}
 
 pub column_lt : (es cs : List ℕ) → within es cs ≡ true → column es cs < product es
 column_lt [] [] h = omega arith
@@ -38,6 +36,34 @@ column_same (e ∷ es) (c ∷ cs) (d ∷ ds) h k q =
     let f : c ≡ d = omega (arith, a) in
     let g = column_same es cs ds p.2 r.2 b in
     cc
+
+column_more : (es cs : List ℕ) (d : ℕ) → d < length es → d < length cs → column (drop d es) (drop d cs) ≡ (get_or cs d 0 - 1) + get_or es d 0 * column (drop (d + 1) es) (drop (d + 1) cs)
+column_more es cs d h k = rw (drop_more es d 0 h, drop_more cs d 0 k)
+
+-- block of the places lie in the dimensions so far, and n of them before the coordinates there
+module _ (es cs : List ℕ) (w : within es cs ≡ true) where
+  digit : (n b c e rest m : ℕ) → n + b * (c + e * rest) ≡ m → n + b * c + b * e * rest ≡ m
+  digit n b c e rest m q = omega (arith, mul-add b c (e * rest), mul_assoc b e rest)
+
+  pub block_fits : (d b : ℕ) → d < length es → b * product (drop d es) ≡ product es → b * get_or es d 0 ≤ product es
+  block_fits d b h q =
+      let p = product_pos (drop (d + 1) es) (solid_drop es (d + 1) (within_solid es cs w)) in
+      omega (arith, count_more es d b h q, le-mul_of_pos_right (b * get_or es d 0) p)
+
+  pub column_next : (d n b : ℕ) → d < length es → n + b * column (drop d es) (drop d cs) ≡ column es cs → n + b * (get_or cs d 0 - 1) + b * get_or es d 0 * column (drop (d + 1) es) (drop (d + 1) cs) ≡ column es cs
+  column_next d n b h q =
+      let l = within_length es cs w in
+      digit n b (get_or cs d 0 - 1) (get_or es d 0) (column (drop (d + 1) es) (drop (d + 1) cs)) (column es cs)
+      (ap (λ t. n + b * t) (sym (column_more es cs d h (omega arith))) ∙ q)
+
+  pub column_fits : (d n b : ℕ) → d < length es → n + b * column (drop d es) (drop d cs) ≡ column es cs → n + b * (get_or cs d 0 - 1) < product es
+  column_fits d n b h q = omega (arith, column_next d n b h q, column_lt es cs w)
+
+  pub column_all : (d n b : ℕ) → length es ≤ d → n + b * column (drop d es) (drop d cs) ≡ column es cs → n ≡ column es cs
+  column_all d n b h q =
+      let e = drop_all d es h in
+      let r : n + b * column [] (drop d cs) ≡ column es cs = ap (λ t. n + b * column t (drop d cs)) (sym e) ∙ q in
+      omega arith
 
 -- lists turned round, and one entry more at their ends
 reverse_cons : (x : ℕ) (xs : List ℕ) → reverse (x ∷ xs) ≡ reverse xs ++ x ∷ []
@@ -73,31 +99,11 @@ place_end (x ∷ es) (d ∷ cs) e c h =
 both_reversed : (es cs : List ℕ) → length es ≡ length cs → length (reverse es) ≡ length (reverse cs)
 both_reversed es cs h = length-reverse es ∙ h ∙ sym (length-reverse cs)
 
-product_reverse : (es : List ℕ) → product (reverse es) ≡ product es
-product_reverse [] = refl
-product_reverse (e ∷ es) = ap product (reverse_cons e es) ∙ product_end (reverse es) e ∙ ap (λ t. e * t) (product_reverse es)
-
 and_turned : (p q : Bool) → (p && (q && true)) ≡ (q && p)
 and_turned true true = refl
 and_turned true false = refl
 and_turned false true = refl
 and_turned false false = refl
-
-each_reverse : (es : List ℕ) → each (reverse es) ≡ each es
-each_reverse [] = refl
-each_reverse (e ∷ es) =
-    let p = leb 1 e && leb e 64 in
-    ap each (reverse_cons e es) ∙ list_all-append (λ x. leb 1 x && leb x 64) (reverse es) (e ∷ [])
-    ∙ ap (λ t. t && (p && true)) (each_reverse es) ∙ and_turned (each es) p
-
-pub proper_reverse : (es : List ℕ) → proper es ≡ true → proper (reverse es) ≡ true
-proper_reverse es h =
-    let p = proper_parts es h in
-    proper_from (reverse es) (record {
-      rank = omega (arith, length-reverse es, p.rank);
-      extents = each_reverse es ∙ p.extents;
-      places = omega (arith, product_reverse es, p.places);
-    })
 
 within_reverse : (es cs : List ℕ) → length es ≡ length cs → within (reverse es) (reverse cs) ≡ within es cs
 within_reverse [] [] h = refl
@@ -130,6 +136,3 @@ place_turned es cs =
     cond-false (within (reverse es) (reverse cs)) _ _ (within_uneven (reverse es) (reverse cs) (λ e. n (sym (length-reverse es) ∙ e ∙ length-reverse cs)))
     ∙ sym (cond-false (within es cs) _ _ (within_uneven es cs n)))
     (cases_eq (length es) (length cs))
-
-pub no_column : (es cs : List ℕ) → 8 < length cs → length es ≤ 4 → column_in es cs ≡ None
-no_column es cs h k = cond-false (within es cs) _ _ (within_uneven es cs (λ e. absurd (omega arith)))

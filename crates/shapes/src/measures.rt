@@ -1,5 +1,5 @@
 // Shapes: how they come of a declaration, and which places they have.
-ghost use Rattle.std.specs.Prelude.{◌≡◌, ◌<◌, [], length, IfSome};
+ghost use Rattle.std.specs.Prelude.{◌≡◌, ◌<◌, [], length, reverse, IfSome};
 ghost use Rattle.std.specs.Option.{option_map};
 ghost use Rattle.std.specs.Result.{result_ok};
 ghost use Rattle.indices.specs.Places.{product, within};
@@ -101,16 +101,18 @@ impl Shape {
         }
     }
 
-    // The number of a place, column-major from 0, if it lies in the shape: row-major in the shape turned round.
+    // The number of a place, column-major from 0, if it lies in the shape: the row-major one in the shape turned round.
     pub fn column(&self, index: &[u16]) -> Option<usize>
         ensures value { result ≡ column_in (extents_of self.now) index.now }
+        ensures turned { result ≡ place_in (reverse (extents_of self.now)) (reverse index.now) }
         ensures bound { IfSome result (λ n. n < 4096) }
     {
-        let at = Index::try_from(index).ok()?;
-        let turned = Shape {
-            extents: self.extents.reversed(),
-        };
-        turned.place(at.reversed().as_slice())
+        let es = self.extents();
+        if places::contains(es, index) {
+            Some(places::column(es, index))
+        } else {
+            None
+        }
     }
 
     // The index whose row-major number this is, if there is one.

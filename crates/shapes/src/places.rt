@@ -1,9 +1,9 @@
-// Places and their row-major numbers, over any list of extents.
+// Places and their row-major and column-major numbers, over any list of extents.
 ghost use Rattle.std.specs.Prelude.{◌≡◌, ◌<◌, ◌≤◌, ◌&&◌, true, Some, length, nat_le};
 ghost use Rattle.std.specs.List.{list_all, zip};
 ghost use Rattle.std.specs.Option.{option_map};
 ghost use Rattle.indices.specs.Coordinates.{coordinates};
-ghost use Rattle.indices.specs.Places.{each, product as product_of, within, place, unplace};
+ghost use Rattle.indices.specs.Places.{each, product as product_of, within, place, unplace, column as column_of};
 ghost use Rattle.shapes.specs.Shapes.{zeros};
 
 use indices::index::Index;
@@ -55,6 +55,21 @@ pub(super) fn number(es: &[u16], index: &[u16]) -> usize
     let mut n: usize = 0;
     for (e, i) in es.iter().zip(index) {
         n = n * *e as usize + (*i as usize - 1);
+    }
+    n
+}
+
+// The number of a place, the first coordinate running fastest.
+pub(super) fn column(es: &[u16], index: &[u16]) -> usize
+    requires inside { within es.now index.now ≡ true }
+    requires places { product_of es.now ≤ 4096 }
+    ensures { result ≡ column_of es.now index.now }
+{
+    let mut n: usize = 0;
+    let mut block: usize = 1;
+    for (e, i) in es.iter().zip(index) {
+        n += block * (*i as usize - 1);
+        block *= *e as usize;
     }
     n
 }

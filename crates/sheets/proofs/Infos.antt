@@ -1,11 +1,23 @@
--- What is known of the nodes, compared. Assumes nothing.
-use Rattle.std.proofs.Common.{◌≡◌, true, ◌&&◌, eqb, List, [], ◌∷◌, sym, refl, ap, ◌∙◌}
+-- What is known of the nodes, looked up and compared. Assumes nothing.
+use Rattle.std.proofs.Common.{◌≡◌, ℕ, zero, suc, ◌-◌, ◌<◌, ◌≤◌, true, ◌&&◌, eqb, List, [], ◌∷◌, length, get_or, sym, refl, ap, ◌∙◌, arith}
 use Rattle.std.proofs.lemmas.Bool.{and_from, and_parts, eq-eqb, eqb-true, false≢true}
+use Rattle.std.proofs.lemmas.List.{get_or_past}
 use Rattle.indices.proofs.Equal.{same_equal, same_self}
 use Rattle.indices.specs.Dimensions.{same}
 use Rattle.refusals.specs.Refusals.{Answer, done, refused}
-use Rattle.sheets.specs.Rules.{Info}
+use Rattle.sheets.specs.Rules.{Info, nothing, info_at}
 use Rattle.sheets.specs.Verdict.{same_infos, finds}
+
+pub info_at_index : (is : List Info) (j : ℕ) → 1 ≤ j → info_at is j ≡ get_or is (j - 1) nothing
+info_at_index is zero h = absurd (omega arith)
+info_at_index is (suc j) h = let e : j ≡ suc j - 1 = omega arith in ap (λ n. get_or is n nothing) e
+
+pub info_none : (is : List Info) (j : ℕ) → j < 1 → info_at is j ≡ nothing
+info_none is zero h = refl
+info_none is (suc j) h = absurd (omega arith)
+
+pub info_past : (is : List Info) (j : ℕ) → length is < j → info_at is j ≡ nothing
+info_past is j h = info_at_index is j (omega arith) ∙ get_or_past is (j - 1) nothing (omega arith)
 
 -- what is found is what is there
 same_infos_self : (is : List Info) → same_infos is is ≡ true
